@@ -1,0 +1,45 @@
+-- Laws of a message's bytes: its header is its first word, its objects are the rest, and bytes are those of their first word and their rest.
+-- Assumes nothing.
+use Prim.Native.Nat.{ℕ, _+_, _*_, _/_, _%_, _<_, _≤_}
+use native.Mathlib.Nat.{div-add-mod', le-of-suc-le-suc, not-suc-le-zero}
+use native.Mathlib.Omega.{arith}
+use mathlib.Core.Path.{_≡_, refl}
+use mathlib.Core.List.{List, [], _∷_, _++_}
+use lib.ListN.{length, drop, getD}
+use Rattle.message.specs.declared.Fields.{Fields}
+use Rattle.message.specs.Header.{headerOf}
+use Rattle.message.specs.Bytes.{twoBytes, bytesOf, wordOf, AreBytes}
+
+pub word-of-two : (w : ℕ) (o : List ℕ) → wordOf (twoBytes w ++ o) ≡ w
+unfolding wordOf
+word-of-two w o = omega (arith, div-add-mod' w 256)
+
+module _ (f : Fields) (o : List ℕ) where
+  pub header-first : wordOf (bytesOf f o) ≡ headerOf f (length o / 4)
+  unfolding bytesOf
+  header-first = word-of-two (headerOf f (length o / 4)) o
+
+  pub objects-rest : drop 2 (bytesOf f o) ≡ o
+  unfolding bytesOf
+  objects-rest = refl
+
+  pub length-bytes : length (bytesOf f o) ≡ 2 + length o
+  unfolding bytesOf
+  length-bytes = omega arith
+
+module _ (s : List ℕ) (b : AreBytes s) where
+  pub word< : wordOf s < 65536
+  unfolding wordOf
+  word< = omega (arith, b 0, b 1)
+
+low : (x y : ℕ) → x < 256 → (x + y * 256) % 256 ≡ x
+low x y h = omega arith
+
+high : (x y : ℕ) → x < 256 → (x + y * 256) / 256 ≡ y
+high x y h = omega arith
+
+pub two-of-word : (s : List ℕ) → AreBytes s → 2 ≤ length s → twoBytes (wordOf s) ++ drop 2 s ≡ s
+unfolding wordOf
+two-of-word [] b h = absurd (not-suc-le-zero h)
+two-of-word (x ∷ []) b h = absurd (not-suc-le-zero (le-of-suc-le-suc h))
+two-of-word (x ∷ (y ∷ s)) b h = rw (low x y (b 0), high x y (b 0)) refl

@@ -1,0 +1,4 @@
+pub mod Layout
+pub mod Types
+pub mod Header
+pub mod Bytes

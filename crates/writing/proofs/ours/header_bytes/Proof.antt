@@ -1,0 +1,14 @@
+use borrow.Author.Needs.{needs}
+use native.Mathlib.Omega.{arith}
+use Rattle.message.proofs.RoundTrip.{header<}
+use Rattle.writing.proofs.ours.header_bytes.Statement.{statement}
+use Rattle.writing.proofs.ours.header_bytes.Tie as tie
+
+pub header-bytes-spec : {M : Type 1} → statement M
+header-bytes-spec =
+    tie.close
+    (tie.spec
+    (λ c κs. search needs)
+    (λ c. search needs)
+    (λ c. search needs)
+    (λ c. rw (c .pack .ensures)))

@@ -1,0 +1,69 @@
+-- "The packet" and "Refusal numbers": what writing a message into a buffer from a place on gives. Writing tries 6, 4, 5.
+use Prim.Native.Nat.{ℕ, _+_, _*_, _-_, _/_, _%_, _≤_}
+use mathlib.Core.Path.{_≡_}
+use mathlib.Core.Bool.{Bool, not, _&&_}
+use mathlib.Core.List.{List, [], _∷_, _++_}
+use lib.Dec.{ltb, eqb}
+use lib.ListN.{length, take, drop}
+use Rattle.ground.specs.declared.Refusal.the-variants.{OutOfRange, NotChunked, NoRoom}
+use Rattle.ground.specs.declared.Verdict.{Verdict}
+use Rattle.ground.specs.declared.Verdict.the-variants.{Fine, Refused}
+use Rattle.ground.specs.Refusals.{refuseIf, anyOf}
+use Rattle.message.specs.declared.Fields.{Fields}
+use Rattle.message.specs.Bytes.{bytesOf, isChunked}
+use Rattle.writing.specs.declared.Writing.{Writing}
+
+-- 6, of n object bytes
+abbrev pub outOfRange : Fields → ℕ → Bool
+outOfRange f n =
+    anyOf
+    (ltb 31 (f .«message_type»)
+    ∷ ltb 7 (f .«message_id»)
+    ∷ ltb 1 (f .«power_role»)
+    ∷ ltb 1 (f .«data_role»)
+    ∷ ltb 2 (f .revision)
+    ∷ not (eqb (n % 4) 0)
+    ∷ ltb 28 n
+    ∷ [])
+
+-- 4
+abbrev pub withoutChunk : Fields → List ℕ → Bool
+withoutChunk f o = f .extended && anyOf (eqb (length o) 0 ∷ not (isChunked o) ∷ [])
+
+-- 5, of a buffer of some size and n object bytes
+abbrev pub tooLittleRoom : ℕ → ℕ → ℕ → Bool
+tooLittleRoom size place n = anyOf (ltb size place ∷ ltb (size - place) (2 + 4 * (n / 4)) ∷ [])
+
+unfoldable pub writingTried : Fields → List ℕ → ℕ → ℕ → Verdict
+writingTried f o size place =
+    refuseIf (outOfRange f (length o)) OutOfRange
+    (refuseIf (withoutChunk f o) NotChunked
+    (refuseIf (tooLittleRoom size place (length o)) NoRoom
+    Fine))
+
+-- bytes m over the front of a part
+abbrev pub over : List ℕ → List ℕ → List ℕ
+over m part = m ++ drop (length m) part
+
+-- bytes m laid into a buffer from a place on: no other byte is different
+abbrev pub laid : List ℕ → ℕ → List ℕ → List ℕ
+laid m place buf = take place buf ++ (m ++ drop (place + length m) buf)
+
+-- n object bytes and their header have room in a buffer of some size from the place on
+pub record Room (n size place : ℕ) : Type 0 where
+  pub few : n ≤ 28
+  pub within : place ≤ size
+  pub room : 2 + n ≤ size - place
+
+abbrev pub resultOf : Verdict → List ℕ → Writing
+resultOf Fine m = Writing.Written (length m)
+resultOf (Refused r) m = Writing.Refused r
+
+abbrev pub bufferOf : Verdict → List ℕ → ℕ → List ℕ → List ℕ
+bufferOf Fine m place buf = laid m place buf
+bufferOf (Refused r) m place buf = buf
+
+-- the promise: the result, and the whole buffer afterwards
+pub record Wrote (f : Fields) (o buf : List ℕ) (place : ℕ) (r : Writing) (after : List ℕ) : Type 0 where
+  pub result : r ≡ resultOf (writingTried f o (length buf) place) (bytesOf f o)
+  pub buffer : after ≡ bufferOf (writingTried f o (length buf) place) (bytesOf f o) place buf

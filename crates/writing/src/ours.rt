@@ -1,0 +1,45 @@
+// The headers of what we send: our roles and revision, and the GoodCRC for a packet.
+ghost use Prim.Native.Nat.{ℕ};
+ghost use mathlib.Core.Path.{_≡_};
+ghost use mathlib.Core.List.{[]};
+ghost use Rattle.message.specs.Bytes.{twoBytes, bytesOf};
+ghost use Rattle.message.specs.Header.{headerOf};
+ghost use Rattle.writing.specs.Ours.{ourFields, goodCrc, goodCrcRevision};
+use message::Fields;
+
+// The fields of a message of ours that is not extended.
+pub fn our_fields(message_type: u8, message_id: u8) -> Fields
+    ensures { λ f. ⌜ f ≡ ourFields «message_type» «message_id» ⌝ }
+{
+    Fields {
+        extended: false,
+        message_id: message_id,
+        power_role: 1,
+        revision: 2,
+        data_role: 1,
+        message_type: message_type,
+    }
+}
+
+// The two bytes of a header, least first.
+pub fn header_bytes(f: Fields, objects: u8) -> [u8; 2]
+    ensures { λ b. ⌜ b ≡ twoBytes (headerOf f objects) ⌝ }
+{
+    let h = message::pack(f, objects);
+    [(h % 256) as u8, (h / 256) as u8]
+}
+
+fn good_crc_revision(revision: u8) -> u8
+    ensures { λ r. ⌜ r ≡ goodCrcRevision revision ⌝ }
+{
+    if revision == 1 { 1 } else { 2 }
+}
+
+// The bytes of the GoodCRC for a packet with these fields.
+pub fn good_crc(f: Fields) -> [u8; 2]
+    ensures { λ b. ⌜ b ≡ bytesOf (goodCrc f) [] ⌝ }
+{
+    let mut g = our_fields(1, f.message_id);
+    g.revision = good_crc_revision(f.revision);
+    header_bytes(g, 0)
+}
