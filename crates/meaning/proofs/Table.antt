@@ -6,6 +6,7 @@ use mathlib.Core.Bool.{Bool, true, false, _&&_}
 use mathlib.Core.List.{List, [], _∷_}
 use lib.Dec.{T, ltb, ltb→lt}
 use borrow.Author.Tests.{ne-eqb}
+use Rattle.ground.proofs.Rows.{both}
 use Rattle.meaning.specs.declared.Kind.{Kind}
 use Rattle.meaning.specs.declared.Kind.the-variants.{Control, Data, Extended}
 use Rattle.meaning.specs.declared.Meaning.the-variants.{Unsupported}
@@ -28,10 +29,6 @@ entry-is Extended t h = rw (row 2 t h, column 2 t h)
 abbrev small : List Named → Bool
 small [] = true
 small (n ∷ ns) = ltb (n .type) 32 && small ns
-
-both : (a b : Bool) → T (a && b) → T a × T b
-both true b t = (tt, t)
-both false b t = absurd t
 
 not-found : (ns : List Named) (t : ℕ) → T (small ns) → 32 ≤ t → foundIn ns t ≡ Unsupported
 not-found [] t s h = refl

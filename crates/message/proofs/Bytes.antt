@@ -1,14 +1,17 @@
 -- Laws of a message's bytes: its header is its first word, its objects are the rest, and bytes are those of their first word and their rest.
 -- Assumes nothing.
-use Prim.Native.Nat.{ℕ, _+_, _*_, _/_, _%_, _<_, _≤_}
+use Prim.Native.Nat.{ℕ, zero, suc, _+_, _*_, _/_, _%_, _<_, _≤_}
 use native.Mathlib.Nat.{div-add-mod', le-of-suc-le-suc, not-suc-le-zero}
 use native.Mathlib.Omega.{arith}
 use mathlib.Core.Path.{_≡_, refl}
+use mathlib.Core.Bool.{Bool, true, _&&_}
 use mathlib.Core.List.{List, [], _∷_, _++_}
+use lib.Dec.{T, ltb, ltb→lt}
 use lib.ListN.{length, drop, getD}
+use Rattle.ground.proofs.Rows.{both}
 use Rattle.message.specs.declared.Fields.{Fields}
 use Rattle.message.specs.Header.{headerOf}
-use Rattle.message.specs.Bytes.{twoBytes, bytesOf, wordOf, AreBytes}
+use Rattle.message.specs.Bytes.{twoBytes, bytesOf, wordOf, isChunked, AreBytes}
 
 pub word-of-two : (w : ℕ) (o : List ℕ) → wordOf (twoBytes w ++ o) ≡ w
 unfolding wordOf
@@ -43,3 +46,19 @@ unfolding wordOf
 two-of-word [] b h = absurd (not-suc-le-zero h)
 two-of-word (x ∷ []) b h = absurd (not-suc-le-zero (le-of-suc-le-suc h))
 two-of-word (x ∷ (y ∷ s)) b h = rw (low x y (b 0), high x y (b 0)) refl
+
+-- an extended header that says Chunked is there
+pub chunked-there : (o : List ℕ) → isChunked o ≡ true → 1 ≤ length o
+unfolding isChunked wordOf
+chunked-there [] e = let z : _≡_ {A = ℕ} 0 1 = cc in absurd (omega arith)
+chunked-there (x ∷ o) e = omega arith
+
+-- a list is of bytes if one test, which the checker computes, says so
+abbrev pub allBelow256 : List ℕ → Bool
+allBelow256 [] = true
+allBelow256 (x ∷ s) = ltb x 256 && allBelow256 s
+
+pub are-bytes : (s : List ℕ) → T (allBelow256 s) → AreBytes s
+are-bytes [] t i = omega arith
+are-bytes (x ∷ s) t zero = ltb→lt x 256 (both (ltb x 256) (allBelow256 s) t .0)
+are-bytes (x ∷ s) t (suc i) = are-bytes s (both (ltb x 256) (allBelow256 s) t .1) i

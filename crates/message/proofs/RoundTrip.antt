@@ -105,3 +105,12 @@ pack-unpack h h< =
     (digit h 512 8 4096 (div-div-eq-div-mul h 512 8))
     (digit h 4096 8 32768 (div-div-eq-div-mul h 4096 8))
     (omega arith))
+
+-- what comes out of a header fits
+pub fields-fit : (h : ℕ) → Fits (fieldsOf h)
+unfolding fieldsOf
+fields-fit h = record { «message_id» = omega arith; «power_role» = omega arith; revision = omega arith; «data_role» = omega arith; «message_type» = omega arith }
+
+pub objects< : (h : ℕ) → objectsOf h < 8
+unfolding objectsOf
+objects< h = omega arith

@@ -1,5 +1,5 @@
 -- "The packet" and "Refusal numbers": what writing a message into a buffer from a place on gives. Writing tries 6, 4, 5.
-use Prim.Native.Nat.{ℕ, _+_, _*_, _-_, _/_, _%_, _≤_}
+use Prim.Native.Nat.{ℕ, _+_, _*_, _-_, _/_, _%_, _<_, _≤_}
 use mathlib.Core.Path.{_≡_}
 use mathlib.Core.Bool.{Bool, not, _&&_}
 use mathlib.Core.List.{List, [], _∷_, _++_}
@@ -10,7 +10,7 @@ use Rattle.ground.specs.declared.Verdict.{Verdict}
 use Rattle.ground.specs.declared.Verdict.the-variants.{Fine, Refused}
 use Rattle.ground.specs.Refusals.{refuseIf, anyOf}
 use Rattle.message.specs.declared.Fields.{Fields}
-use Rattle.message.specs.Bytes.{bytesOf, isChunked}
+use Rattle.message.specs.Bytes.{bytesOf, isChunked, Sound}
 use Rattle.writing.specs.declared.Writing.{Writing}
 
 -- 6, of n object bytes
@@ -54,6 +54,12 @@ pub record Room (n size place : ℕ) : Type 0 where
   pub few : n ≤ 28
   pub within : place ≤ size
   pub room : 2 + n ≤ size - place
+
+-- what writing takes: a sound message, a revision other than 11b, and room
+pub record Writable (f : Fields) (o : List ℕ) (size place : ℕ) : Type 0 where
+  pub sound : Sound f o
+  pub revision : f .revision < 3
+  pub room : Room (length o) size place
 
 abbrev pub resultOf : Verdict → List ℕ → Writing
 resultOf Fine m = Writing.Written (length m)

@@ -1,10 +1,5 @@
 // Writing a message into a lent buffer from a place on, or refusing by the paper's number with no
-// byte changed; and the headers of what we send ourselves. It rests on the message's bytes.
-mod ours;
-
-pub use ours::good_crc;
-pub use ours::header_bytes;
-pub use ours::our_fields;
+// byte changed. It promises the result and every byte of the buffer, and rests on the message's bytes.
 ghost use Prim.Native.Nat.{_+_, _-_, _≤_};
 ghost use mathlib.Core.Path.{_≡_};
 ghost use mathlib.Core.List.{_++_};

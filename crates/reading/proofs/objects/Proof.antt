@@ -4,7 +4,7 @@ use mathlib.Core.Path.{refl, sym, _∙_}
 use native.Mathlib.Omega.{arith}
 use Rattle.ground.proofs.Parts.{rest}
 use Rattle.reading.specs.Reading.{partStart, partOf}
-use Rattle.reading.proofs.Fine.{two}
+use Rattle.reading.proofs.Fine.{readable}
 use Rattle.reading.proofs.objects.Statement.{statement}
 use Rattle.reading.proofs.objects.Tie as tie
 
@@ -24,7 +24,7 @@ objects-spec =
     (λ c. search needs)
     (λ c. search needs)
     (λ c. search needs)
-    (λ c. let at-least = two _ (sym (c .before .before .before .before .tried .ensures) ∙ c .before .before .enum-told .given .1) in absurd (omega arith))
+    (λ c. let told = readable _ (sym (c .before .before .before .before .tried .ensures) ∙ c .before .before .enum-told .given .1) in absurd (omega arith))
     (λ c.
       let told = sym (c .before .before .before .tried .ensures) ∙ c .before .enum-told2 .given .1 in
       record { memory = refl; start = rw told (omega arith); bytes = rw told refl }))

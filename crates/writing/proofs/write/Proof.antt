@@ -3,7 +3,7 @@ use denote.Ref.{now}
 use mathlib.Core.Path.{refl, sym, _∙_}
 use native.Mathlib.Omega.{arith}
 use Rattle.message.proofs.Bytes.{length-bytes}
-use Rattle.writing.proofs.Fine.{room}
+use Rattle.writing.proofs.Fine.{writable}
 use Rattle.writing.proofs.write.Statement.{statement}
 use Rattle.writing.proofs.write.Tie as tie
 
@@ -13,8 +13,8 @@ write-spec =
     (tie.spec
     (λ c κs. search needs)
     (λ c. search needs)
-    (λ c κs. room _ _ _ _ (sym (c .before .before .before .tried .ensures) ∙ c .before .enum-told .given .1))
-    (λ c. let enough = room _ _ _ _ (sym (c .before .before .before .before .before .before .tried .ensures) ∙ c .before .before .before .before .enum-told .given .1) in omega (arith, enough))
+    (λ c κs. writable _ _ _ _ (sym (c .before .before .before .tried .ensures) ∙ c .before .enum-told .given .1) .room)
+    (λ c. omega (arith, writable _ _ _ _ (sym (c .before .before .before .before .before .before .tried .ensures) ∙ c .before .before .before .before .enum-told .given .1) .room))
     (λ c. search needs)
     (λ c. search needs)
     (λ c.

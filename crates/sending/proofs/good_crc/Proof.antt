@@ -1,8 +1,8 @@
 use borrow.Author.Needs.{needs}
 use mathlib.Core.Path.{_∙_}
 use Rattle.message.specs.Bytes.{bytesOf}
-use Rattle.writing.proofs.ours.good_crc.Statement.{statement}
-use Rattle.writing.proofs.ours.good_crc.Tie as tie
+use Rattle.sending.proofs.good_crc.Statement.{statement}
+use Rattle.sending.proofs.good_crc.Tie as tie
 
 pub good-crc-spec : {M : Type 1} → statement M
 unfolding bytesOf

@@ -1,8 +1,8 @@
 use borrow.Author.Needs.{needs}
 use native.Mathlib.Omega.{arith}
 use Rattle.message.proofs.RoundTrip.{header<}
-use Rattle.writing.proofs.ours.header_bytes.Statement.{statement}
-use Rattle.writing.proofs.ours.header_bytes.Tie as tie
+use Rattle.sending.proofs.header_bytes.Statement.{statement}
+use Rattle.sending.proofs.header_bytes.Tie as tie
 
 pub header-bytes-spec : {M : Type 1} → statement M
 header-bytes-spec =

@@ -1,10 +1,10 @@
-// The headers of what we send: our roles and revision, and the GoodCRC for a packet.
-ghost use Prim.Native.Nat.{ℕ};
+// What we send ourselves: the fields and header bytes of our messages, and the GoodCRC for a packet.
+// It promises the bytes for all inputs, and rests on the message's header.
 ghost use mathlib.Core.Path.{_≡_};
 ghost use mathlib.Core.List.{[]};
 ghost use Rattle.message.specs.Bytes.{twoBytes, bytesOf};
 ghost use Rattle.message.specs.Header.{headerOf};
-ghost use Rattle.writing.specs.Ours.{ourFields, goodCrc, goodCrcRevision};
+ghost use Rattle.sending.specs.Sending.{ourFields, goodCrc, goodCrcRevision};
 use message::Fields;
 
 // The fields of a message of ours that is not extended.

@@ -1,0 +1,84 @@
+-- Every answer is pinned down: no two differing results meet the contract of a public call, as the checker itself reads that contract.
+-- Where a call returns a part, its place in the caller's memory is settled too; where a call is lent a buffer, so is every byte of it. Assumes nothing.
+use mathlib.Core.Path.{_≡_, sym, _∙_}
+use denote.Ref.{ptr, now}
+use Rattle.ground.proofs.Settles.{Settles}
+use Rattle.ground.proofs.number.Kinds as number-k
+use Rattle.ground.proofs.number.Reads as number-c
+use Rattle.message.proofs.unpack.Kinds as unpack-k
+use Rattle.message.proofs.unpack.Reads as unpack-c
+use Rattle.message.proofs.pack.Kinds as pack-k
+use Rattle.message.proofs.pack.Reads as pack-c
+use Rattle.message.proofs.object_count.Kinds as count-k
+use Rattle.message.proofs.object_count.Reads as count-c
+use Rattle.message.proofs.word.Kinds as word-k
+use Rattle.message.proofs.word.Reads as word-c
+use Rattle.message.proofs.chunked.Kinds as chunked-k
+use Rattle.message.proofs.chunked.Reads as chunked-c
+use Rattle.meaning.proofs.kind_of.Kinds as kind-k
+use Rattle.meaning.proofs.kind_of.Reads as kind-c
+use Rattle.meaning.proofs.meaning_of.Kinds as meaning-k
+use Rattle.meaning.proofs.meaning_of.Reads as meaning-c
+use Rattle.reading.proofs.read.Kinds as read-k
+use Rattle.reading.proofs.read.Reads as read-c
+use Rattle.reading.proofs.objects.Kinds as objects-k
+use Rattle.reading.proofs.objects.Reads as objects-c
+use Rattle.writing.proofs.write.Kinds as write-k
+use Rattle.writing.proofs.write.Reads as write-c
+use Rattle.sending.proofs.our_fields.Kinds as ours-k
+use Rattle.sending.proofs.our_fields.Reads as ours-c
+use Rattle.sending.proofs.header_bytes.Kinds as header-k
+use Rattle.sending.proofs.header_bytes.Reads as header-c
+use Rattle.sending.proofs.good_crc.Kinds as crc-k
+use Rattle.sending.proofs.good_crc.Reads as crc-c
+
+pub number : Settles 0 number-k.ps number-k.r number-c.Post (λ κs x s. x)
+number κs a x y s t p q = p ∙ sym q
+
+pub unpack : Settles 0 unpack-k.ps unpack-k.r unpack-c.Post (λ κs x s. x)
+unpack κs a x y s t p q = p ∙ sym q
+
+pub pack : Settles 0 pack-k.ps pack-k.r pack-c.Post (λ κs x s. x)
+pack κs a x y s t p q = p ∙ sym q
+
+pub object-count : Settles 0 count-k.ps count-k.r count-c.Post (λ κs x s. x)
+object-count κs a x y s t p q = p ∙ sym q
+
+pub word : Settles 1 word-k.ps word-k.r word-c.Post (λ κs x s. x)
+word κs a x y s t p q = p ∙ sym q
+
+pub chunked : Settles 1 chunked-k.ps chunked-k.r chunked-c.Post (λ κs x s. x)
+chunked κs a x y s t p q = p ∙ sym q
+
+pub kind-of : Settles 0 kind-k.ps kind-k.r kind-c.Post (λ κs x s. x)
+kind-of κs a x y s t p q = p ∙ sym q
+
+pub meaning-of : Settles 0 meaning-k.ps meaning-k.r meaning-c.Post (λ κs x s. x)
+meaning-of κs a x y s t p q = p ∙ sym q
+
+pub read : Settles 1 read-k.ps read-k.r read-c.Post (λ κs x s. x)
+read κs a x y s t p q = p ∙ sym q
+
+pub objects-bytes : Settles 1 objects-k.ps objects-k.r objects-c.Post (λ κs x s. now x)
+objects-bytes κs a x y s t p q = p .bytes ∙ sym (q .bytes)
+
+pub objects-memory : Settles 1 objects-k.ps objects-k.r objects-c.Post (λ κs x s. ptr x .0)
+objects-memory κs a x y s t p q = p .memory ∙ sym (q .memory)
+
+pub objects-start : Settles 1 objects-k.ps objects-k.r objects-c.Post (λ κs x s. ptr x .1)
+objects-start κs a x y s t p q = p .start ∙ sym (q .start)
+
+pub write-result : Settles 2 write-k.ps write-k.r write-c.Post (λ κs x s. x)
+write-result κs a x y s t p q = p .result ∙ sym (q .result)
+
+pub write-buffer : Settles 2 write-k.ps write-k.r write-c.Post (λ κs x s. now (s .1 .1 .0))
+write-buffer κs a x y s t p q = p .buffer ∙ sym (q .buffer)
+
+pub our-fields : Settles 0 ours-k.ps ours-k.r ours-c.Post (λ κs x s. x)
+our-fields κs a x y s t p q = p ∙ sym q
+
+pub header-bytes : Settles 0 header-k.ps header-k.r header-c.Post (λ κs x s. x)
+header-bytes κs a x y s t p q = p ∙ sym q
+
+pub good-crc : Settles 0 crc-k.ps crc-k.r crc-c.Post (λ κs x s. x)
+good-crc κs a x y s t p q = p ∙ sym q
