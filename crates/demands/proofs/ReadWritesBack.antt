@@ -13,7 +13,8 @@ use Rattle.reading.specs.declared.Reading.{Reading}
 use Rattle.reading.specs.Reading.{readOf, partOf}
 use Rattle.reading.proofs.ReadsExactlyMessages.{is-sound, bytes-are}
 use Rattle.writing.specs.declared.Writing.{Writing}
-use Rattle.writing.specs.Writing.{Wrote, Writable, laid}
+use Rattle.ground.specs.Buffers.{laid}
+use Rattle.writing.specs.Writing.{Wrote, Writable}
 use Rattle.writing.proofs.Fine.{fine, reserved}
 
 module _ (s : List ℕ) (b : AreBytes s) (n : ℕ) (f : Fields) (e : readOf s ≡ Reading.Message n f) where

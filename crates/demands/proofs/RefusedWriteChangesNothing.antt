@@ -12,7 +12,7 @@ use Rattle.message.proofs.Bytes.{length-bytes}
 use Rattle.writing.specs.declared.Writing.{Writing}
 use Rattle.writing.specs.Writing.{Wrote, resultOf, bufferOf, writingTried}
 use Rattle.writing.proofs.Fine.{writable}
-use Rattle.writing.proofs.Laid.{before-it, behind-it, as-long}
+use Rattle.ground.proofs.Laid.{before-it, behind-it, as-long}
 use Rattle.demands.specs.Packets.{SameElsewhere}
 use Rattle.demands.proofs.WrittenReadsBack.{was-fine}
 

@@ -14,7 +14,7 @@ use Rattle.demands.specs.Packets.{ReadsAs}
 use Rattle.writing.specs.declared.Writing.{Writing}
 use Rattle.writing.specs.Writing.{Wrote, Writable, resultOf, writingTried}
 use Rattle.writing.proofs.Fine.{writable, fine}
-use Rattle.writing.proofs.Laid.{stands}
+use Rattle.ground.proofs.Laid.{stands}
 
 -- only a writing in which there is nothing to refuse is written
 pub was-fine : (v : Verdict) (m : List ℕ) (k : ℕ) → Writing.Written k ≡ resultOf v m → (v ≡ Fine) × (k ≡ length m)

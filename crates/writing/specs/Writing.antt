@@ -2,12 +2,13 @@
 use Prim.Native.Nat.{ℕ, _+_, _*_, _-_, _/_, _%_, _<_, _≤_}
 use mathlib.Core.Path.{_≡_}
 use mathlib.Core.Bool.{Bool, not, _&&_}
-use mathlib.Core.List.{List, [], _∷_, _++_}
+use mathlib.Core.List.{List, [], _∷_}
 use lib.Dec.{ltb, eqb}
-use lib.ListN.{length, take, drop}
+use lib.ListN.{length}
 use Rattle.ground.specs.declared.Refusal.the-variants.{OutOfRange, NotChunked, NoRoom}
 use Rattle.ground.specs.declared.Verdict.{Verdict}
 use Rattle.ground.specs.declared.Verdict.the-variants.{Fine, Refused}
+use Rattle.ground.specs.Buffers.{laid}
 use Rattle.ground.specs.Refusals.{refuseIf, anyOf}
 use Rattle.message.specs.declared.Fields.{Fields}
 use Rattle.message.specs.Bytes.{bytesOf, isChunked, Sound}
@@ -40,14 +41,6 @@ writingTried f o size place =
     (refuseIf (withoutChunk f o) NotChunked
     (refuseIf (tooLittleRoom size place (length o)) NoRoom
     Fine))
-
--- bytes m over the front of a part
-abbrev pub over : List ℕ → List ℕ → List ℕ
-over m part = m ++ drop (length m) part
-
--- bytes m laid into a buffer from a place on: no other byte is different
-abbrev pub laid : List ℕ → ℕ → List ℕ → List ℕ
-laid m place buf = take place buf ++ (m ++ drop (place + length m) buf)
 
 -- n object bytes and their header have room in a buffer of some size from the place on
 pub record Room (n size place : ℕ) : Type 0 where

@@ -3,7 +3,7 @@ use denote.Ref.{now}
 use mathlib.Core.Path.{_∙_}
 use native.Mathlib.Omega.{arith}
 use Rattle.message.specs.Bytes.{bytesOf}
-use Rattle.writing.proofs.Laid.{over-back}
+use Rattle.ground.proofs.Laid.{over-back}
 use Rattle.writing.proofs.put_at.Statement.{statement}
 use Rattle.writing.proofs.put_at.Tie as tie
 

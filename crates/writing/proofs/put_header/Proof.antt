@@ -1,6 +1,6 @@
 use borrow.Author.Needs.{needs}
 use denote.Ref.{now}
-use Rattle.writing.proofs.Laid.{two-set}
+use Rattle.writing.proofs.Headed.{two-set}
 use Rattle.writing.proofs.put_header.Statement.{statement}
 use Rattle.writing.proofs.put_header.Tie as tie
 

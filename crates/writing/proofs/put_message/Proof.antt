@@ -2,7 +2,7 @@ use borrow.Author.Needs.{needs}
 use denote.Ref.{now}
 use mathlib.Core.Path.{_∙_}
 use native.Mathlib.Omega.{arith}
-use Rattle.writing.proofs.Laid.{headed}
+use Rattle.writing.proofs.Headed.{headed}
 use Rattle.writing.proofs.put_message.Statement.{statement}
 use Rattle.writing.proofs.put_message.Tie as tie
 
