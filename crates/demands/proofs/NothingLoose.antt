@@ -1,8 +1,17 @@
 -- Every answer is pinned down: no two differing results meet the contract of a public call, as the checker itself reads that contract.
 -- Where a call returns a part, its place in the caller's memory is settled too; where a call is lent a buffer, so is every byte of it. Assumes nothing.
-use mathlib.Core.Path.{_≡_, sym, _∙_}
+use mathlib.Core.Path.{sym, ap, _∙_}
 use denote.Ref.{ptr, now}
 use Rattle.ground.proofs.Settles.{Settles}
+use Rattle.text.specs.Text.{Line}
+use Rattle.text.proofs.put.Kinds as put-k
+use Rattle.text.proofs.put.Reads as put-c
+use Rattle.text.proofs.put_hex.Kinds as hex-k
+use Rattle.text.proofs.put_hex.Reads as hex-c
+use Rattle.text.proofs.put_number.Kinds as number-text-k
+use Rattle.text.proofs.put_number.Reads as number-text-c
+use Rattle.text.proofs.put_bytes.Kinds as bytes-k
+use Rattle.text.proofs.put_bytes.Reads as bytes-c
 use Rattle.ground.proofs.number.Kinds as number-k
 use Rattle.ground.proofs.number.Reads as number-c
 use Rattle.message.proofs.unpack.Kinds as unpack-k
@@ -82,3 +91,28 @@ header-bytes κs a x y s t p q = p ∙ sym q
 
 pub good-crc : Settles 0 crc-k.ps crc-k.r crc-c.Post (λ κs x s. x)
 good-crc κs a x y s t p q = p ∙ sym q
+
+-- ---- lines of text: the place and every byte of the buffer
+pub put-place : Settles 2 put-k.ps put-k.r put-c.Post (λ κs x s. x)
+put-place κs a x y s t p q = ap (λ (l : Line). l .at) (p ∙ sym q)
+
+pub put-bytes : Settles 2 put-k.ps put-k.r put-c.Post (λ κs x s. now (s .0))
+put-bytes κs a x y s t p q = ap (λ (l : Line). l .text) (p ∙ sym q)
+
+pub put-hex-place : Settles 1 hex-k.ps hex-k.r hex-c.Post (λ κs x s. x)
+put-hex-place κs a x y s t p q = ap (λ (l : Line). l .at) (p ∙ sym q)
+
+pub put-hex-bytes : Settles 1 hex-k.ps hex-k.r hex-c.Post (λ κs x s. now (s .0))
+put-hex-bytes κs a x y s t p q = ap (λ (l : Line). l .text) (p ∙ sym q)
+
+pub put-number-place : Settles 1 number-text-k.ps number-text-k.r number-text-c.Post (λ κs x s. x)
+put-number-place κs a x y s t p q = ap (λ (l : Line). l .at) (p ∙ sym q)
+
+pub put-number-bytes : Settles 1 number-text-k.ps number-text-k.r number-text-c.Post (λ κs x s. now (s .0))
+put-number-bytes κs a x y s t p q = ap (λ (l : Line). l .text) (p ∙ sym q)
+
+pub put-bytes-of-place : Settles 2 bytes-k.ps bytes-k.r bytes-c.Post (λ κs x s. x)
+put-bytes-of-place κs a x y s t p q = ap (λ (l : Line). l .at) (p ∙ sym q)
+
+pub put-bytes-of-bytes : Settles 2 bytes-k.ps bytes-k.r bytes-c.Post (λ κs x s. now (s .0))
+put-bytes-of-bytes κs a x y s t p q = ap (λ (l : Line). l .text) (p ∙ sym q)

@@ -28,7 +28,7 @@ module _ (s : List ℕ) (b : AreBytes s) (n : ℕ) (f : Fields) (e : readOf s �
 
   -- THE CLAIM
   pub read-writes-back : (buf : List ℕ) (place : ℕ) (r : Writing) (after : List ℕ) → f .revision < 3 → place ≤ length buf → length s ≤ length buf - place →
-    Wrote f (partOf s) buf place r after → (r ≡ Writing.Written (length s)) × (after ≡ laid s place buf)
+      Wrote f (partOf s) buf place r after → (r ≡ Writing.Written (length s)) × (after ≡ laid s place buf)
   read-writes-back buf place r after revision within room w =
       let fits = fine f (partOf s) (length buf) place (good (length buf) place revision within room) in
       (w .result ∙ rw (fits, bytes-are s b n f e), w .buffer ∙ rw (fits, bytes-are s b n f e))

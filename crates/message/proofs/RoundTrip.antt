@@ -49,7 +49,7 @@ bit-back false = refl
 -- what a law of seven digits says of a header's
 module _ (f : Fields) (n : ℕ) where
   of-digits : {A : (e o i p r d t : ℕ) → Type 0} → ((e o i p r d t : ℕ) → e < 2 → o < 8 → i < 8 → p < 2 → r < 4 → d < 2 → t < 32 → A e o i p r d t) →
-    A (bitOf (f .extended) % 2) (n % 8) (f .«message_id» % 8) (f .«power_role» % 2) (f .revision % 4) (f .«data_role» % 2) (f .«message_type» % 32)
+      A (bitOf (f .extended) % 2) (n % 8) (f .«message_id» % 8) (f .«power_role» % 2) (f .revision % 4) (f .«data_role» % 2) (f .«message_type» % 32)
   of-digits law =
       law _ _ _ _ _ _ _ (bit< (f .extended)) (omega arith) (omega arith) (omega arith) (omega arith) (omega arith) (omega arith)
 
@@ -80,7 +80,7 @@ objects-pack f n n< = objects-packed f n ∙ mod-eq-of-lt n<
 
 -- ---- a word, and the digits that it makes
 fold : (h q₅ q₆ q₈ q₉ q₁₂ q₁₅ e o i p r d t : ℕ) → h ≡ q₅ * 32 + t → q₅ ≡ q₆ * 2 + d → q₆ ≡ q₈ * 4 + r → q₈ ≡ q₉ * 2 + p → q₉ ≡ q₁₂ * 8 + i → q₁₂ ≡ q₁₅ * 8 + o → q₁₅ ≡ e →
-  e * 32768 + o * 4096 + i * 512 + p * 256 + r * 64 + d * 32 + t ≡ h
+    e * 32768 + o * 4096 + i * 512 + p * 256 + r * 64 + d * 32 + t ≡ h
 fold h q₅ q₆ q₈ q₉ q₁₂ q₁₅ e o i p r d t = omega arith
 
 -- what lies above a field, times its number of values, and the field

@@ -1,10 +1,13 @@
 // A message: its fields, the sixteen bits of its header (000, Table 6.1) and its bytes. It promises
-// header and fields both ways, for every header and all fields, and rests on nothing.
+// header and fields both ways, for every header and all fields, and rests on the ground's laws.
 ghost use mathlib.Core.Path.{_≡_};
 ghost use Prim.Native.Nat.{_+_, _*_, _<_};
 ghost use lib.ListN.{getD};
 ghost use Rattle.message.specs.Header.{fieldsOf, objectsOf, headerOf, bitOf};
 ghost use Rattle.message.specs.Bytes.{wordOf, isChunked};
+
+// The type of a GoodCRC (000, Table 6.5).
+pub const GOOD_CRC: u8 = 1;
 
 // The fields of a message as reading gives them and writing takes them. How many objects there are
 // is told by the object bytes.

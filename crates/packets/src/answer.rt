@@ -1,9 +1,9 @@
 // The answer to a line, as text.
 ghost use mathlib.Core.Path.{_≡_};
 ghost use lib.ListN.{length};
-use ground::Refusal;
 use crate::line::Form;
 use crate::line::Line;
+use ground::Refusal;
 use meaning::Kind;
 use meaning::Meaning;
 use message::Fields;
@@ -173,7 +173,14 @@ fn put_send_line(out: &mut [u8], s: &[u8], size: usize, place: usize) -> usize {
     if s.len() < 2 {
         return 0;
     }
-    put_writing(out, 0, sending::our_fields(s[0], s[1]), &s[2..], size, place)
+    put_writing(
+        out,
+        0,
+        sending::our_fields(s[0], s[1]),
+        &s[2..],
+        size,
+        place,
+    )
 }
 
 fn field_count(form: Form) -> usize {

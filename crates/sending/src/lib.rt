@@ -7,6 +7,9 @@ ghost use Rattle.message.specs.Header.{headerOf};
 ghost use Rattle.sending.specs.Sending.{ourFields, goodCrc, goodCrcRevision};
 use message::Fields;
 
+// A header as it goes out, least byte first.
+pub type HeaderBytes = [u8; 2];
+
 // The fields of a message of ours that is not extended.
 pub fn our_fields(message_type: u8, message_id: u8) -> Fields
     ensures { λ f. ⌜ f ≡ ourFields «message_type» «message_id» ⌝ }
@@ -21,8 +24,8 @@ pub fn our_fields(message_type: u8, message_id: u8) -> Fields
     }
 }
 
-// The two bytes of a header, least first.
-pub fn header_bytes(f: Fields, objects: u8) -> [u8; 2]
+// The two bytes of the header of a message with these fields and this number of objects.
+pub fn header_bytes(f: Fields, objects: u8) -> HeaderBytes
     ensures { λ b. ⌜ b ≡ twoBytes (headerOf f objects) ⌝ }
 {
     let h = message::pack(f, objects);
@@ -36,10 +39,10 @@ fn good_crc_revision(revision: u8) -> u8
 }
 
 // The bytes of the GoodCRC for a packet with these fields.
-pub fn good_crc(f: Fields) -> [u8; 2]
+pub fn good_crc(f: Fields) -> HeaderBytes
     ensures { λ b. ⌜ b ≡ bytesOf (goodCrc f) [] ⌝ }
 {
-    let mut g = our_fields(1, f.message_id);
+    let mut g = our_fields(message::GOOD_CRC, f.message_id);
     g.revision = good_crc_revision(f.revision);
     header_bytes(g, 0)
 }

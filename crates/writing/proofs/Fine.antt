@@ -35,19 +35,19 @@ writable f o size place e =
     let revision : f .revision ≤ 2 = ltb-false _ _ (revision-in .0) in
     record {
       sound =
-        record {
-          fits =
-            record {
-              «message_id» = le-lt (ltb-false _ _ (id-in .0));
-              «power_role» = le-lt (ltb-false _ _ (power-in .0));
-              revision = omega arith;
-              «data_role» = le-lt (ltb-false _ _ (data-in .0));
-              «message_type» = le-lt (ltb-false _ _ (type-in .0));
-            };
-          whole = whole;
-          few = few;
-          chunked = λ x. not-false _ (neither _ _ (neither _ _ (spared _ _ (chunk .0) x) .1) .0);
-        };
+          record {
+            fits =
+                record {
+                  «message_id» = le-lt (ltb-false _ _ (id-in .0));
+                  «power_role» = le-lt (ltb-false _ _ (power-in .0));
+                  revision = omega arith;
+                  «data_role» = le-lt (ltb-false _ _ (data-in .0));
+                  «message_type» = le-lt (ltb-false _ _ (type-in .0));
+                };
+            whole = whole;
+            few = few;
+            chunked = λ x. not-false _ (neither _ _ (neither _ _ (spared _ _ (chunk .0) x) .1) .0);
+          };
       revision = le-lt revision;
       room = record { few = few; within = ltb-false _ _ (place-in .0); room = fours (length o) size place whole (ltb-false _ _ (neither _ _ (place-in .1) .0)) };
     }

@@ -19,12 +19,12 @@ objects-spec =
     (λ c. search needs)
     (λ c. search needs)
     (λ c.
-      let told = sym (c .before .before .before .before .tried .ensures) ∙ c .before .before .enum-told .given .1 in
-      record { memory = refl; start = rw told (omega arith); bytes = rw told (rest 2 (now (c .before .before .before .before .before .before .args .s))) })
+    let told = sym (c .before .before .before .before .tried .ensures) ∙ c .before .before .enum-told .given .1 in
+    record { memory = refl; start = rw told (omega arith); bytes = rw told (rest 2 (now (c .before .before .before .before .before .before .args .s))) })
     (λ c. search needs)
     (λ c. search needs)
     (λ c. search needs)
     (λ c. let told = readable _ (sym (c .before .before .before .before .tried .ensures) ∙ c .before .before .enum-told .given .1) in absurd (omega arith))
     (λ c.
-      let told = sym (c .before .before .before .tried .ensures) ∙ c .before .enum-told2 .given .1 in
-      record { memory = refl; start = rw told (omega arith); bytes = rw told refl }))
+    let told = sym (c .before .before .before .tried .ensures) ∙ c .before .enum-told2 .given .1 in
+    record { memory = refl; start = rw told (omega arith); bytes = rw told refl }))

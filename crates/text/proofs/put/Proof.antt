@@ -20,10 +20,10 @@ put-spec =
     (λ c. search needs)
     (λ c. search needs)
     (λ c.
-      let within = le-leb _ _ (c .before .before .before .before .before .if1 .taken) in
-      let room = le-leb _ _ (c .before .before .before .before .if2 .taken) in
-      let a = c .before .before .before .before .before .before .before .before .args in
-      let copied = rw (take-length (now (a .piece))) at (c .before .before .copy .ensures .1) in
-      rw (within, room, over-back (now (a .piece)) _ (a .at) (now (a .out)) copied))
+    let within = le-leb _ _ (c .before .before .before .before .before .if1 .taken) in
+    let room = le-leb _ _ (c .before .before .before .before .if2 .taken) in
+    let a = c .before .before .before .before .before .before .before .before .args in
+    let copied = rw (take-length (now (a .piece))) at (c .before .before .copy .ensures .1) in
+    rw (within, room, over-back (now (a .piece)) _ (a .at) (now (a .out)) copied))
     (λ c. rw (le-leb _ _ (c .before .if1 .taken), lt-leb _ _ (c .if2 .left)))
     (λ c. rw (lt-leb _ _ (c .if1 .left))))

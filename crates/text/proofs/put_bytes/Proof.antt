@@ -35,14 +35,14 @@ put-bytes-spec =
     (λ c. search needs)
     (λ c. search needs)
     (λ c.
-      let src = now (c .before .before .before .before .before .before .before .before .before .before .before .before .before .before .before .args .src) in
-      let turn = c .before .before .before .before .before .before .loop in
-      let inside : turn .i < length src = search needs in
-      (search needs, search needs, turn .inv .2 ∙ rw (c .before .before .put-next .ensures) (gone-on src (turn .i) _ inside)))
+    let src = now (c .before .before .before .before .before .before .before .before .before .before .before .before .before .before .before .args .src) in
+    let turn = c .before .before .before .before .before .before .loop in
+    let inside : turn .i < length src = search needs in
+    (search needs, search needs, turn .inv .2 ∙ rw (c .before .before .put-next .ensures) (gone-on src (turn .i) _ inside)))
     (λ c. search needs)
     (λ c.
-      let src = now (c .before .before .before .before .before .before .before .before .before .before .args .src) in
-      let turn = c .before .loop in
-      let past : length src ≤ turn .i = search needs in
-      let some : 0 < length src = omega arith in
-      sym (ended src (turn .i) _ past) ∙ sym (turn .inv .2) ∙ rw (c .before .before .before .before .put-hex .ensures) (sym (begun src _ some))))
+    let src = now (c .before .before .before .before .before .before .before .before .before .before .args .src) in
+    let turn = c .before .loop in
+    let past : length src ≤ turn .i = search needs in
+    let some : 0 < length src = omega arith in
+    sym (ended src (turn .i) _ past) ∙ sym (turn .inv .2) ∙ rw (c .before .before .before .before .put-hex .ensures) (sym (begun src _ some))))

@@ -20,6 +20,6 @@ put-at-spec =
     (λ c κs. search needs)
     (λ c. search needs)
     (λ c.
-      let a = c .before .before .before .before .before .before .before .args in
-      let packed = c .before .before .before .pack .ensures in
-      over-back (bytesOf (a .f) (now (a .objects))) _ (a .place) (now (a .buf)) (rw packed at (c .before .before .put-message .ensures))))
+    let a = c .before .before .before .before .before .before .before .args in
+    let packed = c .before .before .before .pack .ensures in
+    over-back (bytesOf (a .f) (now (a .objects))) _ (a .place) (now (a .buf)) (rw packed at (c .before .before .put-message .ensures))))

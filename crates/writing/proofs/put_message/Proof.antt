@@ -17,6 +17,6 @@ put-message-spec =
     (λ c κs. search needs)
     (λ c. search needs)
     (λ c.
-      let start = c .before .before .before .before .before .before .before .before .before .before in
-      let lent = c .before .before .before .before .before .before .put-objects .ensures in
-      c .before .before .put-header .ensures ∙ headed (start .args .h) (now (start .args .objects)) _ (now (start .args .part)) (omega (arith, start .pre)) lent))
+    let start = c .before .before .before .before .before .before .before .before .before .before in
+    let lent = c .before .before .before .before .before .before .put-objects .ensures in
+    c .before .before .put-header .ensures ∙ headed (start .args .h) (now (start .args .objects)) _ (now (start .args .part)) (omega (arith, start .pre)) lent))

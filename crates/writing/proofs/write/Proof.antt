@@ -18,9 +18,9 @@ write-spec =
     (λ c. search needs)
     (λ c. search needs)
     (λ c.
-      let told = sym (c .before .before .before .before .before .before .tried .ensures) ∙ c .before .before .before .before .enum-told .given .1 in
-      let a = c .before .before .before .before .before .before .before .before .before .args in
-      record { result = rw (told, length-bytes (a .f) (now (a .objects))); buffer = rw told (c .before .before .put-at .ensures) })
+    let told = sym (c .before .before .before .before .before .before .tried .ensures) ∙ c .before .before .before .before .enum-told .given .1 in
+    let a = c .before .before .before .before .before .before .before .before .before .args in
+    record { result = rw (told, length-bytes (a .f) (now (a .objects))); buffer = rw told (c .before .before .put-at .ensures) })
     (λ c.
-      let told = sym (c .before .before .before .tried .ensures) ∙ c .before .v .given .1 in
-      record { result = rw told; buffer = rw told }))
+    let told = sym (c .before .before .before .tried .ensures) ∙ c .before .v .given .1 in
+    record { result = rw told; buffer = rw told }))
