@@ -24,7 +24,7 @@ module _ (s : List ℕ) (b : AreBytes s) (n : ℕ) (f : Fields) (e : readOf s �
   good : (size place : ℕ) → f .revision < 3 → place ≤ size → length s ≤ size - place → Writable f (partOf s) size place
   good size place revision within room =
       let sound = is-sound s b n f e in
-      record { sound = sound; revision = revision; room = record { few = sound .few; within = within; room = omega (arith, as-long) } }
+      record { sound = sound; revision = revision; within = within; room = omega (arith, as-long) }
 
   -- THE CLAIM
   pub read-writes-back : (buf : List ℕ) (place : ℕ) (r : Writing) (after : List ℕ) → f .revision < 3 → place ≤ length buf → length s ≤ length buf - place →

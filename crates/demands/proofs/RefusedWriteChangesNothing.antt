@@ -31,9 +31,9 @@ module _ (f : Fields) (o buf : List ℕ) (place : ℕ) (after : List ℕ) where
       let told = was-fine (writingTried f o (length buf) place) (bytesOf f o) k (w .result) in
       let good = writable f o (length buf) place (told .0) in
       let m = bytesOf f o in
-      let within = good .room .within in
+      let within = good .within in
       record {
         before = λ i h. rw (w .buffer, told .0) (before-it m buf place within i h);
         behind = λ i h. rw (w .buffer, told .0) (behind-it m buf place within i (rw (told .1) at h));
-        long = rw (w .buffer, told .0) (as-long m buf place within (rw (length-bytes f o) (good .room .room)));
+        long = rw (w .buffer, told .0) (as-long m buf place within (rw (length-bytes f o) (good .room)));
       }

@@ -27,7 +27,7 @@ module _ (f : Fields) (o buf : List ℕ) (place : ℕ) where
   written-reads-back k after w =
       let told = was-fine (writingTried f o (length buf) place) (bytesOf f o) k (w .result) in
       let good = writable f o (length buf) place (told .0) in
-      let bytes : take k (drop place after) ≡ bytesOf f o = rw (told .1, w .buffer, told .0) (stands (bytesOf f o) buf place (good .room .within)) in
+      let bytes : take k (drop place after) ≡ bytesOf f o = rw (told .1, w .buffer, told .0) (stands (bytesOf f o) buf place (good .within)) in
       record { message = rw bytes (read-is f o (good .sound)); objects = rw bytes (part-is f o (good .sound)) }
 
   -- THE CLAIM: every sound message with room for it and a revision that may be written is written, whole

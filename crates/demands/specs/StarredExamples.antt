@@ -19,7 +19,7 @@ use Rattle.sending.specs.Sending.{ourFields}
 pub data Example : Type 0 where
   -- these two bytes lead our message of this type and MessageID, with so many objects
   ours : (bytes : List ℕ) (type id objects : ℕ) → Example
-  -- a packet that begins so, with the objects that it names, is of this kind and meaning and has this MessageID
+  -- this packet is of this kind and meaning and has this MessageID
   reads : (packet : List ℕ) (kind : Kind) (meaning : Meaning) (id : ℕ) → Example
   -- this packet is refused with this number
   refused : (packet : List ℕ) (number : ℕ) → Example
@@ -46,6 +46,7 @@ All (e ∷ es) = Holds e × All es
 abbrev fiveVolts : List ℕ
 fiveVolts = 0x2C ∷ 0x91 ∷ 0x01 ∷ 0x00 ∷ []
 
+-- examples 1 (ours, and as it reads), 2, 3 (a header with its object), 4, 5 and 6
 unfoldable pub table : List Example
 table =
     ours (0xA1 ∷ 0x01 ∷ []) Types.GoodCRC 0 0

@@ -5,7 +5,7 @@ use mathlib.Core.List.{List, [], _∷_}
 use Rattle.ground.specs.declared.Refusal.{Refusal}
 use Rattle.ground.specs.declared.Refusal.the-variants.{TooShort, TooLong, WrongLength, NotChunked, NoRoom, OutOfRange}
 use Rattle.ground.specs.declared.Verdict.{Verdict}
-use Rattle.ground.specs.declared.Verdict.the-variants.{Fine, Refused}
+use Rattle.ground.specs.declared.Verdict.the-variants.{Refused}
 
 abbrev pub numberOf : Refusal → ℕ
 numberOf TooShort = 1

@@ -7,7 +7,7 @@ use mathlib.Core.Path.{_≡_, refl}
 use mathlib.Core.Bool.{Bool, true, _&&_}
 use mathlib.Core.List.{List, [], _∷_, _++_}
 use lib.Dec.{T, ltb, ltb→lt}
-use lib.ListN.{length, drop, getD}
+use lib.ListN.{length, drop}
 use Rattle.ground.proofs.Rows.{both}
 use Rattle.message.specs.declared.Fields.{Fields}
 use Rattle.message.specs.Header.{headerOf}

@@ -5,7 +5,7 @@ use native.Mathlib.Omega.{arith}
 use mathlib.Core.Path.{_≡_, refl, sym, ap, subst, _∙_}
 use mathlib.Core.Bool.{Bool, true, false}
 use lib.Dec.{eqb}
-use Rattle.message.specs.Layout.{values, get, put}
+use Rattle.message.specs.Layout.{values}
 use Rattle.message.specs.Header.{bitOf, fieldsOf, objectsOf, headerOf, Fits}
 use Rattle.message.specs.declared.Fields.{Fields}
 

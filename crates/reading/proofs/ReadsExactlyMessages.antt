@@ -1,19 +1,19 @@
 -- Reading accepts exactly the bytes of sound messages, and gives back the message whose bytes they are. Assumes nothing.
-use Prim.Native.Nat.{ℕ, _+_, _-_, _*_, _/_, _%_, _<_, _≤_}
+use Prim.Native.Nat.{ℕ, _-_, _*_, _/_, _<_}
 use native.Mathlib.Omega.{arith}
-use mathlib.Core.Path.{_≡_, refl, sym, ap, subst, _∙_}
-use mathlib.Core.Bool.{Bool, true}
-use mathlib.Core.List.{List, _++_}
+use mathlib.Core.Path.{_≡_, refl, sym, ap, _∙_}
+use mathlib.Core.Bool.{true}
+use mathlib.Core.List.{List}
 use lib.ListN.{length, drop, length-drop}
 use Rattle.ground.specs.declared.Verdict.{Verdict}
 use Rattle.ground.specs.declared.Verdict.the-variants.{Fine, Refused}
 use Rattle.message.specs.declared.Fields.{Fields}
-use Rattle.message.specs.Header.{fieldsOf, objectsOf, headerOf}
-use Rattle.message.specs.Bytes.{AreBytes, Sound, twoBytes, bytesOf, wordOf, isChunked}
+use Rattle.message.specs.Header.{fieldsOf, objectsOf}
+use Rattle.message.specs.Bytes.{AreBytes, Sound, bytesOf, wordOf, isChunked}
 use Rattle.message.proofs.RoundTrip.{pack-unpack, unpack-pack, objects-pack, fields-fit}
 use Rattle.message.proofs.Bytes.{header-first, objects-rest, length-bytes, word<, two-of-word, chunked-there}
 use Rattle.reading.specs.declared.Reading.{Reading}
-use Rattle.reading.specs.Reading.{readingTried, answerOf, readOf, partOf, headerIn, extendedIn}
+use Rattle.reading.specs.Reading.{readingTried, answerOf, readOf, partOf, extendedIn}
 use Rattle.reading.proofs.Fine.{Readable, readable, fine}
 
 -- ---- the bytes of a sound message are read as that message

@@ -1,7 +1,7 @@
 -- "The packet" and "Refusal numbers": what reading a packet gives. Reading tries 1, 2, 3 (extended under 4), 4, 3.
 use Prim.Native.Nat.{ℕ, _+_, _*_}
 use mathlib.Core.Path.{_≡_}
-use mathlib.Core.Bool.{Bool, true, false, not, _&&_}
+use mathlib.Core.Bool.{Bool, not, _&&_}
 use mathlib.Core.List.{List, []}
 use lib.Dec.{ltb, eqb}
 use lib.ListN.{length, drop}
@@ -11,7 +11,6 @@ use Rattle.ground.specs.declared.Refusal.the-variants.{TooShort, TooLong, Wrong
 use Rattle.ground.specs.declared.Verdict.{Verdict}
 use Rattle.ground.specs.declared.Verdict.the-variants.{Fine, Refused}
 use Rattle.ground.specs.Refusals.{refuseIf}
-use Rattle.message.specs.declared.Fields.{Fields}
 use Rattle.message.specs.Header.{fieldsOf, objectsOf}
 use Rattle.message.specs.Bytes.{wordOf, isChunked}
 use Rattle.reading.specs.declared.Reading.{Reading}

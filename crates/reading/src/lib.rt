@@ -1,11 +1,10 @@
 // Reading a packet: any bytes of any length give the fields, or a refusal by the paper's number; and
 // the object bytes as that part of the packet itself. It rests on the message's bytes.
 ghost use mathlib.Core.Path.{_≡_};
-ghost use mathlib.Core.Bool.{not, _&&_};
 ghost use Rattle.ground.specs.declared.Refusal.the-variants.{TooShort, TooLong, WrongLength, NotChunked};
 ghost use Rattle.ground.specs.declared.Verdict.the-variants.{Fine};
 ghost use Rattle.ground.specs.Refusals.{refuseIf};
-ghost use Rattle.reading.specs.Reading.{Part, afterHeader, readingTried, readOf, answerOf, partStart};
+ghost use Rattle.reading.specs.Reading.{Part, afterHeader, readingTried, readOf};
 use ground::Refusal;
 use ground::Verdict;
 use message::Fields;

@@ -4,7 +4,7 @@
 ghost use Prim.Native.Nat.{_<_};
 ghost use mathlib.Core.Path.{_≡_};
 ghost use mathlib.Core.List.{[], _∷_};
-ghost use Rattle.text.specs.Text.{line, typed, glyphOf, hexOf, numberOf, typedBytes, typedRest};
+ghost use Rattle.text.specs.Text.{line, typed, glyphOf, hexOf, numberOf, typedBytes};
 
 // Puts a piece of text at a place of the line.
 pub fn put(out: &mut [u8], at: usize, piece: &[u8]) -> usize

@@ -3,7 +3,7 @@ use Prim.Native.Nat.{ℕ, suc, _+_, _-_, _*_, _/_, _%_, _<_, _≤_}
 use native.Mathlib.Nat.{le-of-suc-le-suc}
 use native.Mathlib.Omega.{arith}
 use mathlib.Core.Path.{_≡_, refl, ap}
-use mathlib.Core.Bool.{true, not}
+use mathlib.Core.Bool.{not}
 use mathlib.Core.List.{List}
 use lib.ListN.{length}
 use borrow.Author.Tests.{ltb-false, lt-ltb, le-ltb, eqb-true, eq-eqb, ne-eqb, not-false}
@@ -49,7 +49,8 @@ writable f o size place e =
             chunked = λ x. not-false _ (neither _ _ (neither _ _ (spared _ _ (chunk .0) x) .1) .0);
           };
       revision = le-lt revision;
-      room = record { few = few; within = ltb-false _ _ (place-in .0); room = fours (length o) size place whole (ltb-false _ _ (neither _ _ (place-in .1) .0)) };
+      within = ltb-false _ _ (place-in .0);
+      room = fours (length o) size place whole (ltb-false _ _ (neither _ _ (place-in .1) .0));
     }
   where
     le-lt : {m n : ℕ} → m ≤ n → m < n + 1
@@ -69,7 +70,6 @@ pub fine : (f : Fields) (o : List ℕ) (size place : ℕ) → Writable f o size 
 unfolding writingTried
 fine f o size place w =
     let m = w .sound in
-    let r = w .room in
     pass _ _ _
     (nor _ _ (le-ltb 31 _ (lt-le (m .fits .«message_type»)))
     (nor _ _ (le-ltb 7 _ (lt-le (m .fits .«message_id»)))
@@ -81,7 +81,7 @@ fine f o size place w =
     (pass _ _ _
     (spare _ _ (λ x. nor _ _ (ne-eqb (length o) 0 (there (length o) (chunked-there o (m .chunked x)))) (nor _ _ (ap not (m .chunked x)) none)))
     (pass _ _ _
-    (nor _ _ (le-ltb size place (r .within)) (nor _ _ (le-ltb (size - place) (2 + 4 * (length o / 4)) (back (length o) size place (r .room))) none))
+    (nor _ _ (le-ltb size place (w .within)) (nor _ _ (le-ltb (size - place) (2 + 4 * (length o / 4)) (back (length o) size place (w .room))) none))
     refl))
 
 -- ---- the reserved revision is refused first of all

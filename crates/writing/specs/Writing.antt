@@ -14,7 +14,7 @@ use Rattle.message.specs.declared.Fields.{Fields}
 use Rattle.message.specs.Bytes.{bytesOf, isChunked, Sound}
 use Rattle.writing.specs.declared.Writing.{Writing}
 
--- 6, of n object bytes
+-- "type over 31, MessageID over 7, a role over 1, revision 11b or over, object bytes not a multiple of 4 or over 28" (n of them)
 abbrev pub outOfRange : Fields → ℕ → Bool
 outOfRange f n =
     anyOf
@@ -27,14 +27,15 @@ outOfRange f n =
     ∷ ltb 28 n
     ∷ [])
 
--- 4
+-- "extended with Chunked clear; in writing also extended without object"
 abbrev pub withoutChunk : Fields → List ℕ → Bool
 withoutChunk f o = f .extended && anyOf (eqb (length o) 0 ∷ not (isChunked o) ∷ [])
 
--- 5, of a buffer of some size and n object bytes
+-- "fewer than 2 + 4 x objects bytes from the place to the buffer's end, or place past the end" (n object bytes, a buffer of some size)
 abbrev pub tooLittleRoom : ℕ → ℕ → ℕ → Bool
 tooLittleRoom size place n = anyOf (ltb size place ∷ ltb (size - place) (2 + 4 * (n / 4)) ∷ [])
 
+-- nothing to refuse, or the first refusal
 unfoldable pub writingTried : Fields → List ℕ → ℕ → ℕ → Verdict
 writingTried f o size place =
     refuseIf (outOfRange f (length o)) OutOfRange
@@ -42,22 +43,19 @@ writingTried f o size place =
     (refuseIf (tooLittleRoom size place (length o)) NoRoom
     Fine))
 
--- n object bytes and their header have room in a buffer of some size from the place on
-pub record Room (n size place : ℕ) : Type 0 where
-  pub few : n ≤ 28
-  pub within : place ≤ size
-  pub room : 2 + n ≤ size - place
-
--- what writing takes: a sound message, a revision other than 11b, and room
+-- what writing takes: a sound message, a revision other than 11b, and room from the place on
 pub record Writable (f : Fields) (o : List ℕ) (size place : ℕ) : Type 0 where
   pub sound : Sound f o
   pub revision : f .revision < 3
-  pub room : Room (length o) size place
+  pub within : place ≤ size
+  pub room : 2 + length o ≤ size - place
 
+-- how many bytes were written of the message m, or the refusal
 abbrev pub resultOf : Verdict → List ℕ → Writing
 resultOf Fine m = Writing.Written (length m)
 resultOf (Refused r) m = Writing.Refused r
 
+-- the buffer afterwards
 abbrev pub bufferOf : Verdict → List ℕ → ℕ → List ℕ → List ℕ
 bufferOf Fine m place buf = laid m place buf
 bufferOf (Refused r) m place buf = buf

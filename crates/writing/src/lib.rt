@@ -9,7 +9,7 @@ ghost use Rattle.ground.specs.declared.Verdict.the-variants.{Fine};
 ghost use Rattle.ground.specs.Buffers.{over, laid};
 ghost use Rattle.ground.specs.Refusals.{refuseIf};
 ghost use Rattle.message.specs.Bytes.{twoBytes, bytesOf};
-ghost use Rattle.writing.specs.Writing.{Wrote, Room, outOfRange, withoutChunk, tooLittleRoom, writingTried};
+ghost use Rattle.writing.specs.Writing.{Wrote, Writable, outOfRange, withoutChunk, tooLittleRoom, writingTried};
 use ground::Refusal;
 use ground::Verdict;
 use message::Fields;
@@ -102,7 +102,7 @@ fn put_message(part: &mut [u8], h: u16, objects: &[u8])
 
 // The message in a buffer that has room for it, from the place on.
 fn put_at(f: Fields, objects: &[u8], buf: &mut [u8], place: usize)
-    requires { ⌜ Room (length (now objects)) (length (now buf)) place ⌝ }
+    requires { ⌜ Writable f (now objects) (length (now buf)) place ⌝ }
     ensures { λ _. ⌜ now (buf .exit) ≡ laid (bytesOf f (now (objects .entry))) place (now (buf .entry)) ⌝ }
 {
     let n = (objects.len() / 4) as u8;

@@ -1,6 +1,5 @@
 use borrow.Author.Needs.{needs}
 use mathlib.Core.Path.{sym, _∙_}
-use native.Mathlib.Omega.{arith}
 use Rattle.meaning.proofs.Table.{entry-is, past}
 use Rattle.meaning.proofs.meaning_of.Statement.{statement}
 use Rattle.meaning.proofs.meaning_of.Tie as tie

@@ -1,6 +1,4 @@
 use borrow.Author.Needs.{needs}
-use native.Mathlib.Omega.{arith}
-use Rattle.message.proofs.RoundTrip.{header<}
 use Rattle.sending.proofs.header_bytes.Statement.{statement}
 use Rattle.sending.proofs.header_bytes.Tie as tie
 

@@ -1,7 +1,5 @@
 use borrow.Author.Needs.{needs}
 use denote.Ref.{now}
-use mathlib.Core.Path.{_∙_}
-use native.Mathlib.Omega.{arith}
 use Rattle.message.specs.Bytes.{bytesOf}
 use Rattle.ground.proofs.Laid.{over-back}
 use Rattle.writing.proofs.put_at.Statement.{statement}

@@ -1,6 +1,6 @@
 use borrow.Author.Needs.{needs}
 use denote.Ref.{now}
-use mathlib.Core.Path.{refl, sym, _∙_}
+use mathlib.Core.Path.{sym, _∙_}
 use native.Mathlib.Omega.{arith}
 use Rattle.message.proofs.Bytes.{length-bytes}
 use Rattle.writing.proofs.Fine.{writable}
@@ -13,8 +13,8 @@ write-spec =
     (tie.spec
     (λ c κs. search needs)
     (λ c. search needs)
-    (λ c κs. writable _ _ _ _ (sym (c .before .before .before .tried .ensures) ∙ c .before .enum-told .given .1) .room)
-    (λ c. omega (arith, writable _ _ _ _ (sym (c .before .before .before .before .before .before .tried .ensures) ∙ c .before .before .before .before .enum-told .given .1) .room))
+    (λ c κs. writable _ _ _ _ (sym (c .before .before .before .tried .ensures) ∙ c .before .enum-told .given .1))
+    (λ c. omega (arith, writable _ _ _ _ (sym (c .before .before .before .before .before .before .tried .ensures) ∙ c .before .before .before .before .enum-told .given .1) .sound .few))
     (λ c. search needs)
     (λ c. search needs)
     (λ c.
