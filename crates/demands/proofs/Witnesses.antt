@@ -1,6 +1,7 @@
 -- A worked case for each claim that has a condition, so that none of them speaks of nothing: the Request `82 12 2C B1 04 20` of example 7, written into
 -- the middle of a buffer, and a GoodCRC with the reserved revision. The checker computes each. Assumes nothing.
-use Prim.Native.Nat.{ℕ}
+use Prim.Native.Nat.{ℕ, _<_}
+use native.Mathlib.Omega.{arith}
 use mathlib.Core.Path.{_≡_, refl}
 use mathlib.Core.Bool.{false}
 use mathlib.Core.List.{List, [], _∷_}
@@ -8,7 +9,7 @@ use lib.ListN.{length}
 use Rattle.ground.specs.declared.Refusal.the-variants.{OutOfRange}
 use Rattle.ground.specs.Refusals.{refuseIf, anyOf}
 use Rattle.message.specs.declared.Fields.{Fields}
-use Rattle.message.specs.Header.{fieldsOf, objectsOf, headerOf}
+use Rattle.message.specs.Header.{fieldsOf, objectsOf, headerOf, Fits}
 use Rattle.message.specs.Bytes.{AreBytes, bytesOf, wordOf, isChunked}
 use Rattle.message.proofs.Bytes.{are-bytes}
 use Rattle.reading.specs.declared.Reading.{Reading}
@@ -41,6 +42,14 @@ a-write = record { result = refl; buffer = refl }
 pub a-good-message : Writable request objects (length buffer) 1
 unfolding writingTried refuseIf anyOf isChunked wordOf
 a-good-message = writable request objects 8 1 refl
+
+-- whose fields fit, in a header that names its one object (message: RoundTrip.unpack-pack, objects-pack, pack-unpack)
+pub fields-that-fit : Fits request
+fields-that-fit = a-good-message .sound .fits
+
+pub a-header : (headerOf request 1 ≡ 0x1282) × (1 < 8) × (0x1282 < 65536)
+unfolding headerOf
+a-header = (refl, omega arith, omega arith)
 
 -- a packet that is read (ReadWritesBack.read-writes-back)
 pub a-packet : (AreBytes packet) × (readOf packet ≡ Reading.Message 1 request) × (partOf packet ≡ objects)

@@ -41,10 +41,12 @@ module _ (f : Fields) (o : List ℕ) (m : Sound f o) where
         even = rw (length-bytes f o, objects-in) (omega (arith, m .whole));
       }
 
+  -- THE CLAIM: a sound message's bytes are read as that message
   pub read-is : readOf (bytesOf f o) ≡ Reading.Message (length o / 4) f
   unfolding readOf
   read-is = rw (fine-in, objects-in, fields-in)
 
+  -- THE CLAIM: and their part is its object bytes
   pub part-is : partOf (bytesOf f o) ≡ o
   unfolding partOf
   part-is = rw (fine-in) (objects-rest f o)
@@ -72,6 +74,7 @@ module _ (s : List ℕ) (b : AreBytes s) (n : ℕ) (f : Fields) (e : readOf s �
   pub objects-are : length (partOf s) ≡ 4 * n
   objects-are = rw rest-is rest-length
 
+  -- THE CLAIM: what is read is a sound message
   pub is-sound : Sound f (partOf s)
   is-sound =
       record {
@@ -84,6 +87,7 @@ module _ (s : List ℕ) (b : AreBytes s) (n : ℕ) (f : Fields) (e : readOf s �
   fours : length (partOf s) / 4 ≡ n
   fours = omega (arith, objects-are)
 
+  -- THE CLAIM: and the packet is that message's bytes
   pub bytes-are : bytesOf f (partOf s) ≡ s
   unfolding bytesOf
   bytes-are =

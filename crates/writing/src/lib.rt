@@ -116,8 +116,9 @@ pub fn write(f: Fields, objects: &[u8], buf: &mut [u8], place: usize) -> Writing
     let v = tried(f, objects, buf.len(), place);
     match v {
         Verdict::Fine => {
+            let n = 2 + objects.len();
             put_at(f, objects, buf, place);
-            Writing::Written(2 + objects.len())
+            Writing::Written(n)
         }
         Verdict::Refused(r) => Writing::Refused(r),
     }

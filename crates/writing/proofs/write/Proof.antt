@@ -13,8 +13,8 @@ write-spec =
     (tie.spec
     (λ c κs. search needs)
     (λ c. search needs)
+    (λ c. omega (arith, writable _ _ _ _ (sym (c .before .before .tried .ensures) ∙ c .enum-told .given .1) .sound .few))
     (λ c κs. writable _ _ _ _ (sym (c .before .before .before .tried .ensures) ∙ c .before .enum-told .given .1))
-    (λ c. omega (arith, writable _ _ _ _ (sym (c .before .before .before .before .before .before .tried .ensures) ∙ c .before .before .before .before .enum-told .given .1) .sound .few))
     (λ c. search needs)
     (λ c. search needs)
     (λ c.
