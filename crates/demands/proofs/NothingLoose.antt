@@ -1,6 +1,6 @@
 -- Every answer is pinned down: no two differing results meet the contract of a public call, as the checker itself reads that contract.
 -- Where a call returns a part, its place in the caller's memory is settled too; where a call is lent a buffer, so is every byte of it. Assumes nothing.
-use mathlib.Core.Path.{sym, ap, _∙_}
+use mathlib.Core.Path.{_≡_, sym, ap, _∙_}
 use denote.Ref.{ptr, now}
 use Rattle.ground.proofs.Settles.{Settles}
 use Rattle.text.specs.Text.{Line}
@@ -41,78 +41,82 @@ use Rattle.sending.proofs.header_bytes.Reads as header-c
 use Rattle.sending.proofs.good_crc.Kinds as crc-k
 use Rattle.sending.proofs.good_crc.Reads as crc-c
 
+-- two things that are the same third are the same
+same : {A : Type 0} {x y d : A} → x ≡ d → y ≡ d → x ≡ y
+same p q = p ∙ sym q
+
 pub number : Settles 0 number-k.ps number-k.r number-c.Post (λ κs x s. x)
-number κs a x y s t p q = p ∙ sym q
+number κs a x y s t = same
 
 pub unpack : Settles 0 unpack-k.ps unpack-k.r unpack-c.Post (λ κs x s. x)
-unpack κs a x y s t p q = p ∙ sym q
+unpack κs a x y s t = same
 
 pub pack : Settles 0 pack-k.ps pack-k.r pack-c.Post (λ κs x s. x)
-pack κs a x y s t p q = p ∙ sym q
+pack κs a x y s t = same
 
 pub object-count : Settles 0 count-k.ps count-k.r count-c.Post (λ κs x s. x)
-object-count κs a x y s t p q = p ∙ sym q
+object-count κs a x y s t = same
 
 pub word : Settles 1 word-k.ps word-k.r word-c.Post (λ κs x s. x)
-word κs a x y s t p q = p ∙ sym q
+word κs a x y s t = same
 
 pub chunked : Settles 1 chunked-k.ps chunked-k.r chunked-c.Post (λ κs x s. x)
-chunked κs a x y s t p q = p ∙ sym q
+chunked κs a x y s t = same
 
 pub kind-of : Settles 0 kind-k.ps kind-k.r kind-c.Post (λ κs x s. x)
-kind-of κs a x y s t p q = p ∙ sym q
+kind-of κs a x y s t = same
 
 pub meaning-of : Settles 0 meaning-k.ps meaning-k.r meaning-c.Post (λ κs x s. x)
-meaning-of κs a x y s t p q = p ∙ sym q
+meaning-of κs a x y s t = same
 
 pub read : Settles 1 read-k.ps read-k.r read-c.Post (λ κs x s. x)
-read κs a x y s t p q = p ∙ sym q
+read κs a x y s t = same
 
 pub objects-bytes : Settles 1 objects-k.ps objects-k.r objects-c.Post (λ κs x s. now x)
-objects-bytes κs a x y s t p q = p .bytes ∙ sym (q .bytes)
+objects-bytes κs a x y s t p q = same (p .bytes) (q .bytes)
 
 pub objects-memory : Settles 1 objects-k.ps objects-k.r objects-c.Post (λ κs x s. ptr x .0)
-objects-memory κs a x y s t p q = p .memory ∙ sym (q .memory)
+objects-memory κs a x y s t p q = same (p .memory) (q .memory)
 
 pub objects-start : Settles 1 objects-k.ps objects-k.r objects-c.Post (λ κs x s. ptr x .1)
-objects-start κs a x y s t p q = p .start ∙ sym (q .start)
+objects-start κs a x y s t p q = same (p .start) (q .start)
 
 pub write-result : Settles 2 write-k.ps write-k.r write-c.Post (λ κs x s. x)
-write-result κs a x y s t p q = p .result ∙ sym (q .result)
+write-result κs a x y s t p q = same (p .result) (q .result)
 
 pub write-buffer : Settles 2 write-k.ps write-k.r write-c.Post (λ κs x s. now (s .1 .1 .0))
-write-buffer κs a x y s t p q = p .buffer ∙ sym (q .buffer)
+write-buffer κs a x y s t p q = same (p .buffer) (q .buffer)
 
 pub our-fields : Settles 0 ours-k.ps ours-k.r ours-c.Post (λ κs x s. x)
-our-fields κs a x y s t p q = p ∙ sym q
+our-fields κs a x y s t = same
 
 pub header-bytes : Settles 0 header-k.ps header-k.r header-c.Post (λ κs x s. x)
-header-bytes κs a x y s t p q = p ∙ sym q
+header-bytes κs a x y s t = same
 
 pub good-crc : Settles 0 crc-k.ps crc-k.r crc-c.Post (λ κs x s. x)
-good-crc κs a x y s t p q = p ∙ sym q
+good-crc κs a x y s t = same
 
 -- ---- lines of text: the place and every byte of the buffer
 pub put-place : Settles 2 put-k.ps put-k.r put-c.Post (λ κs x s. x)
-put-place κs a x y s t p q = ap (λ (l : Line). l .at) (p ∙ sym q)
+put-place κs a x y s t p q = ap (λ (l : Line). l .at) (same p q)
 
 pub put-bytes : Settles 2 put-k.ps put-k.r put-c.Post (λ κs x s. now (s .0))
-put-bytes κs a x y s t p q = ap (λ (l : Line). l .text) (p ∙ sym q)
+put-bytes κs a x y s t p q = ap (λ (l : Line). l .text) (same p q)
 
 pub put-hex-place : Settles 1 hex-k.ps hex-k.r hex-c.Post (λ κs x s. x)
-put-hex-place κs a x y s t p q = ap (λ (l : Line). l .at) (p ∙ sym q)
+put-hex-place κs a x y s t p q = ap (λ (l : Line). l .at) (same p q)
 
 pub put-hex-bytes : Settles 1 hex-k.ps hex-k.r hex-c.Post (λ κs x s. now (s .0))
-put-hex-bytes κs a x y s t p q = ap (λ (l : Line). l .text) (p ∙ sym q)
+put-hex-bytes κs a x y s t p q = ap (λ (l : Line). l .text) (same p q)
 
 pub put-number-place : Settles 1 number-text-k.ps number-text-k.r number-text-c.Post (λ κs x s. x)
-put-number-place κs a x y s t p q = ap (λ (l : Line). l .at) (p ∙ sym q)
+put-number-place κs a x y s t p q = ap (λ (l : Line). l .at) (same p q)
 
 pub put-number-bytes : Settles 1 number-text-k.ps number-text-k.r number-text-c.Post (λ κs x s. now (s .0))
-put-number-bytes κs a x y s t p q = ap (λ (l : Line). l .text) (p ∙ sym q)
+put-number-bytes κs a x y s t p q = ap (λ (l : Line). l .text) (same p q)
 
 pub put-bytes-of-place : Settles 2 bytes-k.ps bytes-k.r bytes-c.Post (λ κs x s. x)
-put-bytes-of-place κs a x y s t p q = ap (λ (l : Line). l .at) (p ∙ sym q)
+put-bytes-of-place κs a x y s t p q = ap (λ (l : Line). l .at) (same p q)
 
 pub put-bytes-of-bytes : Settles 2 bytes-k.ps bytes-k.r bytes-c.Post (λ κs x s. now (s .0))
-put-bytes-of-bytes κs a x y s t p q = ap (λ (l : Line). l .text) (p ∙ sym q)
+put-bytes-of-bytes κs a x y s t p q = ap (λ (l : Line). l .text) (same p q)
