@@ -14,6 +14,8 @@ use Rattle.text.proofs.put_bytes.Kinds as bytes-k
 use Rattle.text.proofs.put_bytes.Reads as bytes-c
 use Rattle.ground.proofs.number.Kinds as number-k
 use Rattle.ground.proofs.number.Reads as number-c
+use Rattle.ground.proofs.refuse_if.Kinds as refuse-k
+use Rattle.ground.proofs.refuse_if.Reads as refuse-c
 use Rattle.message.proofs.unpack.Kinds as unpack-k
 use Rattle.message.proofs.unpack.Reads as unpack-c
 use Rattle.message.proofs.pack.Kinds as pack-k
@@ -47,6 +49,9 @@ same p q = p ∙ sym q
 
 pub number : Settles 0 number-k.ps number-k.r number-c.Post (λ κs x s. x)
 number κs a x y s t = same
+
+pub refuse-if : Settles 0 refuse-k.ps refuse-k.r refuse-c.Post (λ κs x s. x)
+refuse-if κs a x y s t = same
 
 pub unpack : Settles 0 unpack-k.ps unpack-k.r unpack-c.Post (λ κs x s. x)
 unpack κs a x y s t = same

@@ -1,8 +1,8 @@
 // The ground that every layer stands on: the paper's refusals with their numbers, and the verdict
-// of a row of tests. It promises the number of each refusal, and rests on nothing. Its `specs/` and
-// `proofs/` hold the few notions and laws that all layers share.
+// of a row of tests. It promises the number of each refusal and the order of the tests, and rests on
+// nothing. Its `specs/` and `proofs/` hold the few notions and laws that all layers share.
 ghost use mathlib.Core.Path.{_≡_};
-ghost use Rattle.ground.specs.Refusals.{numberOf};
+ghost use Rattle.ground.specs.Refusals.{numberOf, refuseIf};
 
 // The paper's "Refusal numbers", one case for each row.
 pub enum Refusal {
@@ -39,4 +39,12 @@ pub fn number(r: Refusal) -> u8
         Refusal::NoRoom => 5,
         Refusal::OutOfRange => 6,
     }
+}
+
+// One test in front of a row: its refusal where it holds, else what the rest of the row comes to. A
+// row is put together from its last test to its first.
+pub fn refuse_if(test: bool, r: Refusal, rest: Verdict) -> Verdict
+    ensures { λ v. ⌜ v ≡ refuseIf test r rest ⌝ }
+{
+    if test { Verdict::Refused(r) } else { rest }
 }

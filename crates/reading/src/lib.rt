@@ -3,38 +3,16 @@
 ghost use mathlib.Core.Path.{_≡_};
 ghost use Rattle.ground.specs.declared.Refusal.the-variants.{TooShort, TooLong, WrongLength, NotChunked};
 ghost use Rattle.ground.specs.declared.Verdict.the-variants.{Fine};
-ghost use Rattle.ground.specs.Refusals.{refuseIf};
 ghost use Rattle.reading.specs.Reading.{Part, afterHeader, readingTried, readOf};
 use ground::Refusal;
 use ground::Verdict;
+use ground::refuse_if;
 use message::Fields;
 
 // What reading a packet gives.
 pub enum Reading {
     Message { objects: u8, fields: Fields },
     Refused(Refusal),
-}
-
-// The tests in the order in which the paper tries them.
-fn row(short: bool, long: bool, under_four: bool, unchunked: bool, uneven: bool) -> Verdict
-    ensures { λ v. ⌜ v ≡ refuseIf short TooShort (refuseIf long TooLong (refuseIf «under_four» WrongLength (refuseIf unchunked NotChunked (refuseIf uneven WrongLength Fine)))) ⌝ }
-{
-    if short {
-        return Verdict::Refused(Refusal::TooShort);
-    }
-    if long {
-        return Verdict::Refused(Refusal::TooLong);
-    }
-    if under_four {
-        return Verdict::Refused(Refusal::WrongLength);
-    }
-    if unchunked {
-        return Verdict::Refused(Refusal::NotChunked);
-    }
-    if uneven {
-        return Verdict::Refused(Refusal::WrongLength);
-    }
-    Verdict::Fine
 }
 
 // What follows the header.
@@ -44,19 +22,21 @@ fn after_header(s: &[u8]) -> &[u8]
     if 2 <= s.len() { &s[2..] } else { &s[..0] }
 }
 
+// The tests, from the last that the paper tries to the first.
 fn tried(s: &[u8]) -> Verdict
     ensures { λ v. ⌜ v ≡ readingTried (now (s .entry)) ⌝ }
 {
     let h = message::word(s);
     let f = message::unpack(h);
     let n = s.len();
-    row(
-        n < 2,
-        30 < n,
-        f.extended & (n < 4),
-        f.extended & !message::chunked(after_header(s)),
-        !(n == 2 + 4 * (message::object_count(h) as usize)),
-    )
+    let under_four = f.extended & (n < 4);
+    let unchunked = f.extended & !message::chunked(after_header(s));
+    let uneven = !(n == 2 + 4 * (message::object_count(h) as usize));
+    let length = refuse_if(uneven, Refusal::WrongLength, Verdict::Fine);
+    let chunk = refuse_if(unchunked, Refusal::NotChunked, length);
+    let four = refuse_if(under_four, Refusal::WrongLength, chunk);
+    let long = refuse_if(30 < n, Refusal::TooLong, four);
+    refuse_if(n < 2, Refusal::TooShort, long)
 }
 
 // The fields and the number of objects, or the refusal.

@@ -7,33 +7,17 @@ ghost use lib.ListN.{length};
 ghost use Rattle.ground.specs.declared.Refusal.the-variants.{OutOfRange, NotChunked, NoRoom};
 ghost use Rattle.ground.specs.declared.Verdict.the-variants.{Fine};
 ghost use Rattle.ground.specs.Buffers.{over, laid};
-ghost use Rattle.ground.specs.Refusals.{refuseIf};
 ghost use Rattle.message.specs.Bytes.{twoBytes, bytesOf};
 ghost use Rattle.writing.specs.Writing.{Wrote, Writable, outOfRange, withoutChunk, tooLittleRoom, writingTried};
 use ground::Refusal;
 use ground::Verdict;
+use ground::refuse_if;
 use message::Fields;
 
 // What writing a message comes to: how many bytes were written, or the refusal.
 pub enum Writing {
     Written(usize),
     Refused(Refusal),
-}
-
-// The tests in the order in which the paper tries them.
-fn row(range: bool, chunk: bool, room: bool) -> Verdict
-    ensures { λ v. ⌜ v ≡ refuseIf range OutOfRange (refuseIf chunk NotChunked (refuseIf room NoRoom Fine)) ⌝ }
-{
-    if range {
-        return Verdict::Refused(Refusal::OutOfRange);
-    }
-    if chunk {
-        return Verdict::Refused(Refusal::NotChunked);
-    }
-    if room {
-        return Verdict::Refused(Refusal::NoRoom);
-    }
-    Verdict::Fine
 }
 
 fn out_of_range(f: Fields, n: usize) -> bool
@@ -63,15 +47,17 @@ fn too_little_room(size: usize, place: usize, n: usize) -> bool
     size - place < 2 + 4 * (n / 4)
 }
 
+// The tests, from the last that the paper tries to the first.
 fn tried(f: Fields, objects: &[u8], size: usize, place: usize) -> Verdict
     ensures { λ v. ⌜ v ≡ writingTried f (now (objects .entry)) size place ⌝ }
 {
     let n = objects.len();
-    row(
-        out_of_range(f, n),
-        without_chunk(f, objects),
-        too_little_room(size, place, n),
-    )
+    let range = out_of_range(f, n);
+    let chunk = without_chunk(f, objects);
+    let room = too_little_room(size, place, n);
+    let fits = refuse_if(room, Refusal::NoRoom, Verdict::Fine);
+    let chunked = refuse_if(chunk, Refusal::NotChunked, fits);
+    refuse_if(range, Refusal::OutOfRange, chunked)
 }
 
 // The header writer: two bytes at the front of a part.

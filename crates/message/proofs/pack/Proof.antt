@@ -15,8 +15,8 @@ bit-fits false = refl
 returns : tie.Need-returns
 unfolding headerOf
 returns c =
-    let a = c .before .before .before .before .before .before .before .args in
-    cc (bit-fits (a .f .extended), mul-one (a .f .«message_type» % 32))
+    let start = c .before .before .before .before .before .before .before in
+    rw (c .wide6 .ensures .0, c .before .wide5 .ensures .0, c .before .before .wide4 .ensures .0, c .before .before .before .wide3 .ensures .0, c .before .before .before .before .wide2 .ensures .0, c .before .before .before .before .before .wide .ensures .0, c .before .before .before .before .before .before .bit .ensures .0, bit-fits (start .args .f .extended), mul-one (start .args .f .«message_type» % 32))
 
 pub pack-spec : {M : Type 1} → statement M
 pack-spec =

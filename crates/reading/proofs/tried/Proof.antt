@@ -18,4 +18,10 @@ tried-spec =
     (λ c. search needs)
     (λ c. search needs)
     (λ c κs. search needs)
-    (λ c. c .row .ensures ∙ rw (c .before .object-count .ensures, c .before .before .before .chunked .ensures, c .before .before .before .before .after-header .ensures, c .before .before .before .before .before .before .unpack .ensures, c .before .before .before .before .before .before .before .word .ensures)))
+    (λ c κs. search needs)
+    (λ c κs. search needs)
+    (λ c κs. search needs)
+    (λ c κs. search needs)
+    (λ c.
+    let asked = c .before .before .before .before .before in
+    c .refuse-if5 .ensures ∙ rw (c .before .refuse-if4 .ensures, c .before .before .refuse-if3 .ensures, c .before .before .before .refuse-if2 .ensures, c .before .before .before .before .refuse-if .ensures, asked .object-count .ensures, asked .before .before .chunked .ensures, asked .before .before .before .after-header .ensures, asked .before .before .before .before .before .unpack .ensures, asked .before .before .before .before .before .before .word .ensures)))

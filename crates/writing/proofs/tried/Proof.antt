@@ -13,4 +13,8 @@ tried-spec =
     (λ c κs. search needs)
     (λ c κs. search needs)
     (λ c κs. search needs)
-    (λ c. c .row .ensures ∙ rw (c .before .too-little-room .ensures, c .before .before .without-chunk .ensures, c .before .before .before .out-of-range .ensures)))
+    (λ c κs. search needs)
+    (λ c κs. search needs)
+    (λ c.
+    let asked = c .before .before .before in
+    c .refuse-if3 .ensures ∙ rw (c .before .refuse-if2 .ensures, c .before .before .refuse-if .ensures, asked .too-little-room .ensures, asked .before .without-chunk .ensures, asked .before .before .out-of-range .ensures)))
