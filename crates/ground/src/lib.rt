@@ -19,6 +19,10 @@ pub enum Refusal {
     // 6: type over 31, MessageID over 7, a role over 1, revision 11b or over, object bytes not a
     // multiple of 4 or over 28
     OutOfRange,
+    // 7: bad offer
+    BadOffer,
+    // 8: the event isn't awaited in this state
+    NotAwaited,
 }
 
 // What a row of tests comes to: nothing to refuse, or the first refusal in the row.
@@ -38,6 +42,8 @@ pub fn number(r: Refusal) -> u8
         Refusal::NotChunked => 4,
         Refusal::NoRoom => 5,
         Refusal::OutOfRange => 6,
+        Refusal::BadOffer => 7,
+        Refusal::NotAwaited => 8,
     }
 }
 

@@ -6,7 +6,7 @@ pub record Bits : Type 0 where
   pub lowest : ℕ
   pub count : ℕ
 
-abbrev bits : ℕ → ℕ → Bits
+abbrev pub bits : ℕ → ℕ → Bits
 bits l n = record { lowest = l; count = n }
 
 abbrev pub Extended : Bits

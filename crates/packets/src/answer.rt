@@ -34,6 +34,8 @@ fn put_refusal(out: &mut [u8], at: usize, r: Refusal) -> usize {
             b"too little room from the place on, or place past the end",
         ),
         Refusal::OutOfRange => text::put(out, end, b"a field or the object bytes out of range"),
+        Refusal::BadOffer => text::put(out, end, b"bad offer"),
+        Refusal::NotAwaited => text::put(out, end, b"the event is not awaited in this state"),
     }
 }
 

@@ -1,0 +1,11 @@
+use borrow.Author.Needs.{needs}
+use Rattle.source.proofs.when_acknowledged.Statement.{statement}
+use Rattle.source.proofs.when_acknowledged.Tie as tie
+
+pub when-acknowledged-spec : {M : Type 1} → statement M
+when-acknowledged-spec =
+    tie.close
+    (tie.spec
+    (λ c κs. search needs)
+    (λ c. rw (← c .before .is .ensures, c .if1 .taken))
+    (λ c. rw (← c .before .is .ensures, c .if1 .left)))

@@ -1,0 +1,4 @@
+pub mod States
+pub mod Leads
+pub mod Packets
+pub mod Changes
