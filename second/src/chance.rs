@@ -1,5 +1,5 @@
 //! A small generator with a fixed seed (the "splitmix" one), so that the test
-//! input of the packet program (docs/PACKETS.md) is the same on every run.
+//! input of the programs (docs/PACKETS.md, docs/STEPS.md) is the same on every run.
 
 pub struct Chance(u64);
 

@@ -1,9 +1,19 @@
-//! Bytes as text, as docs/PACKETS.md wants them: two hexadecimal digits each.
+//! Bytes as text, as docs/PACKETS.md and docs/STEPS.md want them: two hexadecimal
+//! digits each.
 
 /// Large digits, one blank between two bytes; no bytes are the empty text.
 pub fn text_of(bytes: &[u8]) -> String {
     let pairs: Vec<String> = bytes.iter().map(|byte| format!("{byte:02X}")).collect();
     pairs.join(" ")
+}
+
+/// As above, but no bytes are a dash.
+pub fn text_or_dash(bytes: &[u8]) -> String {
+    if bytes.is_empty() {
+        "-".to_string()
+    } else {
+        text_of(bytes)
+    }
 }
 
 /// None where a character has no place or one digit stands where two belong.
@@ -27,6 +37,14 @@ pub fn is_blank(character: u8) -> bool {
     matches!(character, b' ' | b'\r')
 }
 
+/// One byte as docs/STEPS.md wants it: these two digits and nothing else.
+pub fn byte_of(word: &[u8]) -> Option<u8> {
+    match *word {
+        [first, second] => Some(digit(first)? << 4 | digit(second)?),
+        _ => None,
+    }
+}
+
 fn digit(character: u8) -> Option<u8> {
     let value = char::from(character).to_digit(16)?;
     Some(value as u8)
@@ -40,6 +58,17 @@ mod tests {
     fn text_has_large_digits_and_single_blanks() {
         assert_eq!(text_of(&[]), "");
         assert_eq!(text_of(&[0x0a, 0xff, 0x00]), "0A FF 00");
+        assert_eq!(text_or_dash(&[]), "-");
+        assert_eq!(text_or_dash(&[0x0a, 0xff]), "0A FF");
+    }
+
+    #[test]
+    fn one_byte_has_two_digits() {
+        assert_eq!(byte_of(b"0a"), Some(0x0a));
+        assert_eq!(byte_of(b"fF"), Some(0xff));
+        for bad in ["", "0", "0a0", " 0", "0 ", "+1", "g0", "0g"] {
+            assert_eq!(byte_of(bad.as_bytes()), None, "{bad:?}");
+        }
     }
 
     #[test]

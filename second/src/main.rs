@@ -1,20 +1,37 @@
 //! An independent second implementation, written from the paper alone, to be
-//! compared with the first. For now it has the paper's "The packet".
+//! compared with the first. It has the paper's "The packet" and one port: "The
+//! port's memory and its actions" and "The Source states". The rack is not here.
 
 mod chance;
+mod channel;
 mod hex;
+mod lines;
 mod meaning;
 mod odd_lines;
+mod offer;
 mod packet;
 mod packet_cases;
 mod packet_lines;
+mod port;
+mod refusal;
+mod states;
+mod step_cases;
+mod step_events;
+mod step_lines;
+mod step_odd_lines;
+mod step_random;
+mod step_situations;
+mod step_walk;
 mod writing_cases;
 
 use std::io::{self, BufWriter};
 use std::process::ExitCode;
 
-const USAGE: &str = "usage: second packets       answer the lines of standard input
-       second packet-cases  print lines to try it with";
+const USAGE: &str =
+    "usage: second packets       answer the lines of standard input (docs/PACKETS.md)
+       second packet-cases  print lines to try it with
+       second steps         answer the lines of standard input (docs/STEPS.md)
+       second steps-cases   print lines to try it with";
 
 fn main() -> ExitCode {
     let arguments: Vec<_> = std::env::args_os().skip(1).collect();
@@ -23,6 +40,8 @@ fn main() -> ExitCode {
     let done = match words[..] {
         [Some("packets")] => packet_lines::answer_all(io::stdin().lock(), output),
         [Some("packet-cases")] => packet_cases::print_all(output),
+        [Some("steps")] => step_lines::answer_all(io::stdin().lock(), output),
+        [Some("steps-cases")] => step_cases::print_all(output),
         _ => {
             eprintln!("{USAGE}");
             return ExitCode::from(2);

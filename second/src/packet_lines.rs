@@ -1,9 +1,9 @@
 //! The packet program of docs/PACKETS.md: one line in, one line out. The rules
 //! are the paper's "The packet"; here they are only put into text.
 
-use crate::hex;
 use crate::meaning::{kind, meaning, Kind, Meaning};
 use crate::packet::{good_crc, read, what_we_send, write, Fields};
+use crate::{hex, lines, refusal};
 use std::io::{self, BufRead, Write};
 
 /// Of a line's bytes this many are kept, and no buffer is larger.
@@ -23,17 +23,8 @@ struct Line {
     room: Option<(usize, usize)>,
 }
 
-/// Answers every line. Lines are bytes, not text: any byte may turn up in one.
-pub fn answer_all(mut input: impl BufRead, mut output: impl Write) -> io::Result<()> {
-    let mut line = Vec::new();
-    while input.read_until(b'\n', &mut line)? > 0 {
-        if line.last() == Some(&b'\n') {
-            line.pop();
-        }
-        writeln!(output, "{}", answer(&line))?;
-        line.clear();
-    }
-    output.flush()
+pub fn answer_all(input: impl BufRead, output: impl Write) -> io::Result<()> {
+    lines::answer_all(input, output, answer)
 }
 
 fn answer(line: &[u8]) -> String {
@@ -98,7 +89,7 @@ fn room_of(text: &[u8]) -> Option<(usize, usize)> {
 fn reading(packet: &[u8], room: Option<(usize, usize)>) -> String {
     let (fields, objects) = match read(packet) {
         (Ok(fields), objects) => (fields, objects),
-        (Err(number), _) => return format!("read: {}", refused(number)),
+        (Err(number), _) => return format!("read: {}", refusal::text_of(number)),
     };
     let kind = kind(fields.extended, objects);
     format!(
@@ -112,8 +103,8 @@ fn reading(packet: &[u8], room: Option<(usize, usize)>) -> String {
         fields.data_role,
         fields.message_type,
         objects.len() / 4,
-        bytes_or_dash(objects),
-        bytes_or_dash(&good_crc(&fields)),
+        hex::text_or_dash(objects),
+        hex::text_or_dash(&good_crc(&fields)),
         writing(&fields, objects, room),
     )
 }
@@ -124,30 +115,9 @@ fn writing(fields: &Fields, objects: &[u8], room: Option<(usize, usize)>) -> Str
     let mut buffer: Vec<u8> = (0..size).map(|i| i as u8).collect();
     let outcome = match write(fields, objects, &mut buffer, place) {
         Ok(length) => format!("written: {length} bytes"),
-        Err(number) => refused(number),
+        Err(number) => refusal::text_of(number),
     };
-    format!("{outcome}; buffer: {}", bytes_or_dash(&buffer))
-}
-
-fn bytes_or_dash(bytes: &[u8]) -> String {
-    if bytes.is_empty() {
-        "-".to_string()
-    } else {
-        hex::text_of(bytes)
-    }
-}
-
-fn refused(number: u8) -> String {
-    let words = match number {
-        1 => "packet under 2 bytes",
-        2 => "packet over 30 bytes",
-        3 => "length is not 2 + 4 x objects, or extended under 4 bytes",
-        4 => "extended with Chunked clear, or written without object",
-        5 => "too little room from the place on, or place past the end",
-        6 => "a field or the object bytes out of range",
-        _ => unreachable!("a packet is refused with 1 to 6, not {number}"),
-    };
-    format!("refused {number}, {words}")
+    format!("{outcome}; buffer: {}", hex::text_or_dash(&buffer))
 }
 
 fn kind_word(kind: Kind) -> &'static str {

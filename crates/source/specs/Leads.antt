@@ -7,7 +7,8 @@ use Rattle.source.specs.declared.State.{State}
 use Rattle.source.specs.declared.Stimulus.{Stimulus}
 use Rattle.source.specs.declared.Facts.{Facts}
 use Rattle.source.specs.declared.Lead.{Lead}
-use Rattle.source.specs.declared.Lead.the-variants.{Refuse, Stay, Offered, Softened, HardHeard}
+use Rattle.source.specs.declared.Lead.the-variants.{Refuse, To}
+use Rattle.source.specs.declared.Way.{Way}
 use Rattle.source.specs.States.{same, listens}
 
 -- a state, and where it leads
@@ -30,88 +31,88 @@ byRows (r ∷ rs) other s = when s (r .state) (r .lead) (byRows rs other s)
 
 -- "Detached takes attach, to Offer."
 abbrev pub onAttach : State → Lead
-onAttach = byRows ((State.Detached leads-to Lead.Offer) ∷ []) Refuse
+onAttach = byRows ((State.Detached leads-to To Way.Offer) ∷ []) Refuse
 
 -- "Detach takes any other state to Detached."
 abbrev pub onDetach : State → Lead
-onDetach = byRows ((State.Detached leads-to Refuse) ∷ []) Lead.Detached
+onDetach = byRows ((State.Detached leads-to Refuse) ∷ []) (To Way.Detached)
 
 -- "a heard Hard Reset leads them to Hard" (those that listen)
 abbrev pub onHardReset : State → Lead
-onHardReset s = cond (listens s) HardHeard Refuse
+onHardReset s = cond (listens s) (To Way.HardHeard) Refuse
 
 -- "Entering either with a newest offer that hasn't gone out leads to Offer at once."
-abbrev pub readyOr : Bool → Lead
-readyOr goneOut = cond goneOut Lead.Ready Lead.Offer
+abbrev pub readyOr : Bool → Way
+readyOr goneOut = cond goneOut Way.Ready Way.Offer
 
-abbrev pub waitingOr : Bool → Lead
-waitingOr goneOut = cond goneOut Lead.Waiting Lead.Offer
+abbrev pub waitingOr : Bool → Way
+waitingOr goneOut = cond goneOut Way.Waiting Way.Offer
 
 -- "no contract: Waiting; last offer has at the contract's position the same voltage and at least its current: Ready; else Hard"
-abbrev pub afterReject : Standing → Bool → Lead
+abbrev pub afterReject : Standing → Bool → Way
 afterReject NoContract goneOut = waitingOr goneOut
 afterReject Honoured goneOut = readyOr goneOut
-afterReject Broken goneOut = Lead.Hard
+afterReject Broken goneOut = Way.Hard
 
 abbrev pub onAcknowledged : State → Standing → Bool → Lead
 onAcknowledged s contract goneOut =
     byRows
-    ((State.Offer leads-to Offered)
-    ∷ (State.Accepting leads-to Lead.Moving)
-    ∷ (State.Telling leads-to readyOr goneOut)
-    ∷ (State.Declining leads-to readyOr goneOut)
-    ∷ (State.Refusing leads-to afterReject contract goneOut)
-    ∷ (State.Soft leads-to Softened)
-    ∷ (State.Answering leads-to Lead.Offer)
+    ((State.Offer leads-to To Way.Offered)
+    ∷ (State.Accepting leads-to To Way.Moving)
+    ∷ (State.Telling leads-to To (readyOr goneOut))
+    ∷ (State.Declining leads-to To (readyOr goneOut))
+    ∷ (State.Refusing leads-to To (afterReject contract goneOut))
+    ∷ (State.Soft leads-to To Way.Softened)
+    ∷ (State.Answering leads-to To Way.Offer)
     ∷ [])
-    Stay
+    (To Way.Stay)
     s
 
 -- "Failed: Discovery, or Soft if connected."
-abbrev pub unheardOffer : Bool → Lead
-unheardOffer connected = cond connected Lead.Soft Lead.Discovery
+abbrev pub unheardOffer : Bool → Way
+unheardOffer connected = cond connected Way.Soft Way.Discovery
 
 abbrev pub onFailed : State → Bool → Lead
 onFailed s connected =
     byRows
-    ((State.Offer leads-to unheardOffer connected)
-    ∷ (State.Accepting leads-to Lead.Hard)
-    ∷ (State.Moving leads-to Lead.Hard)
-    ∷ (State.Telling leads-to Lead.Hard)
-    ∷ (State.Refusing leads-to Lead.Soft)
-    ∷ (State.Declining leads-to Lead.Soft)
-    ∷ (State.Waiting leads-to Lead.Soft)
-    ∷ (State.Soft leads-to Lead.Hard)
-    ∷ (State.Answering leads-to Lead.Hard)
+    ((State.Offer leads-to To (unheardOffer connected))
+    ∷ (State.Accepting leads-to To Way.Hard)
+    ∷ (State.Moving leads-to To Way.Hard)
+    ∷ (State.Telling leads-to To Way.Hard)
+    ∷ (State.Refusing leads-to To Way.Soft)
+    ∷ (State.Declining leads-to To Way.Soft)
+    ∷ (State.Waiting leads-to To Way.Soft)
+    ∷ (State.Soft leads-to To Way.Hard)
+    ∷ (State.Answering leads-to To Way.Hard)
     ∷ [])
-    Stay
+    (To Way.Stay)
     s
 
 -- SenderResponse runs once the offer or the Soft_Reset is acknowledged; "its expiry: Hard"
 abbrev pub noAnswer : Bool → Lead
-noAnswer pending = cond pending Refuse Lead.Hard
+noAnswer pending = cond pending Refuse (To Way.Hard)
 
 abbrev pub onSenderResponse : State → Bool → Lead
 onSenderResponse s pending = byRows ((State.Offer leads-to noAnswer pending) ∷ (State.Soft leads-to noAnswer pending) ∷ []) Refuse s
 
 -- "on expiry Offer, or Disabled once the count is 50"
-abbrev pub offerAgain : Bool → Lead
-offerAgain fifty = cond fifty Lead.Disabled Lead.Offer
+abbrev pub offerAgain : Bool → Way
+offerAgain fifty = cond fifty Way.Disabled Way.Offer
 
 abbrev pub onSourceCapability : State → Bool → Lead
-onSourceCapability s fifty = byRows ((State.Discovery leads-to offerAgain fifty) ∷ []) Refuse s
+onSourceCapability s fifty = byRows ((State.Discovery leads-to To (offerAgain fifty)) ∷ []) Refuse s
 
 -- "start PSHardReset; on expiry Default"
 abbrev pub onPsHardReset : State → Lead
-onPsHardReset = byRows ((State.Hard leads-to Lead.Default) ∷ []) Refuse
+onPsHardReset = byRows ((State.Hard leads-to To Way.Default) ∷ []) Refuse
 
 -- "supply ready": Moving goes on to Telling, Default to Offer
 abbrev pub onSupplyReady : State → Lead
-onSupplyReady = byRows ((State.Moving leads-to Lead.Telling) ∷ (State.Default leads-to Lead.Offer) ∷ []) Refuse
+onSupplyReady = byRows ((State.Moving leads-to To Way.Telling) ∷ (State.Default leads-to To Way.Offer) ∷ []) Refuse
 
 -- "From Ready and Waiting it leads to Offer; elsewhere it is kept."
 abbrev pub onNewOffer : State → Lead
-onNewOffer = byRows ((State.Ready leads-to Lead.Offer) ∷ (State.Waiting leads-to Lead.Offer) ∷ []) Stay
+onNewOffer = byRows ((State.Ready leads-to To Way.Offer) ∷ (State.Waiting leads-to To Way.Offer) ∷ []) (To Way.Stay)
 
 -- "power answer yes: Accepting; no: Refusing"
 abbrev pub onAnswer : State → Lead → Lead
@@ -128,5 +129,5 @@ leads s Stimulus.SourceCapability f = onSourceCapability s (f .fifty)
 leads s Stimulus.PsHardReset f = onPsHardReset s
 leads s Stimulus.SupplyReady f = onSupplyReady s
 leads s Stimulus.NewOffer f = onNewOffer s
-leads s Stimulus.Yes f = onAnswer s Lead.Accepting
-leads s Stimulus.No f = onAnswer s Lead.Refusing
+leads s Stimulus.Yes f = onAnswer s (To Way.Accepting)
+leads s Stimulus.No f = onAnswer s (To Way.Refusing)

@@ -1,6 +1,6 @@
 -- "The Source states": the states told apart, which of them listen, and the timer that runs in each.
 use Prim.Native.Nat.{ℕ}
-use mathlib.Core.Bool.{Bool, true, false, not, _||_}
+use mathlib.Core.Bool.{Bool, true, false, not, cond, _||_}
 use lib.Dec.{eqb}
 use Rattle.source.specs.declared.State.{State}
 use Rattle.source.specs.declared.Timer.{Timer}
@@ -54,3 +54,7 @@ running State.Refusing pending = NoTimer
 running State.Waiting pending = NoTimer
 running State.Answering pending = NoTimer
 running State.Default pending = NoTimer
+
+-- "Leaving a state stops its running timer."
+abbrev pub stopped : State → State → Timer → Timer
+stopped before after runs = cond (same before after) NoTimer runs

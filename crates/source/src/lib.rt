@@ -2,7 +2,7 @@
 // and what happens to held power. It promises the paper's state list, for every state, and holds no
 // memory: the port gives the facts that a state asks for.
 ghost use mathlib.Core.Path.{_≡_};
-ghost use Rattle.source.specs.States.{codeOf, same, listens, awaitsReply, running};
+ghost use Rattle.source.specs.States.{codeOf, same, listens, awaitsReply, running, stopped};
 ghost use Rattle.source.specs.Leads.{when, readyOr, waitingOr, afterReject, unheardOffer, noAnswer, offerAgain, onAttach, onDetach, onHardReset, onAcknowledged, onFailed, onSenderResponse, onSourceCapability, onPsHardReset, onSupplyReady, onNewOffer, onAnswer, leads};
 ghost use Rattle.source.specs.Packets.{awaiting, atRest, answered, waited, resetting, answering, onPacket};
 ghost use Rattle.source.specs.Changes.{changeOf, whenAcknowledged, whenSupplyReady};
@@ -77,11 +77,15 @@ pub struct Facts {
     pub standing: Standing,
 }
 
-// Where the rules lead: not at all (refusal 8), no further, on in the same state once the offer or
-// the Soft_Reset is acknowledged, or into a state. Hard is entered with a signal, or without one where
-// a Hard Reset was heard.
+// Where the rules lead: nowhere, which is refusal 8, or some way on.
 pub enum Lead {
     Refuse,
+    To(Way),
+}
+
+// A way on: no further, on in the same state once the offer or the Soft_Reset is acknowledged, or into
+// a state. Hard is entered with a signal, or without one where a Hard Reset was heard.
+pub enum Way {
     Stay,
     Offered,
     Softened,
@@ -179,30 +183,41 @@ pub fn running(s: State, pending: bool) -> Timer
     }
 }
 
+// Leaving a state stops the timer that runs in it.
+pub fn stopped(before: State, after: State, runs: Timer) -> Timer
+    ensures { λ r. ⌜ r ≡ stopped before after runs ⌝ }
+{
+    if is(before, after) {
+        Timer::NoTimer
+    } else {
+        runs
+    }
+}
+
 // ---- where each stimulus leads
 
 // Ready, or Offer at once.
-fn ready_or_offer(gone_out: bool) -> Lead
+fn ready_or_offer(gone_out: bool) -> Way
     ensures { λ r. ⌜ r ≡ readyOr «gone_out» ⌝ }
 {
-    if gone_out { Lead::Ready } else { Lead::Offer }
+    if gone_out { Way::Ready } else { Way::Offer }
 }
 
 // Waiting, or Offer at once.
-fn waiting_or_offer(gone_out: bool) -> Lead
+fn waiting_or_offer(gone_out: bool) -> Way
     ensures { λ r. ⌜ r ≡ waitingOr «gone_out» ⌝ }
 {
-    if gone_out { Lead::Waiting } else { Lead::Offer }
+    if gone_out { Way::Waiting } else { Way::Offer }
 }
 
 // A Reject is acknowledged.
-fn after_reject(contract: Standing, gone_out: bool) -> Lead
+fn after_reject(contract: Standing, gone_out: bool) -> Way
     ensures { λ r. ⌜ r ≡ afterReject contract «gone_out» ⌝ }
 {
     match contract {
         Standing::NoContract => waiting_or_offer(gone_out),
         Standing::Honoured => ready_or_offer(gone_out),
-        Standing::Broken => Lead::Hard,
+        Standing::Broken => Way::Hard,
     }
 }
 
@@ -218,14 +233,14 @@ fn when(s: State, t: State, lead: Lead, other: Lead) -> Lead
 fn on_attach(s: State) -> Lead
     ensures { λ r. ⌜ r ≡ onAttach s ⌝ }
 {
-    when(s, State::Detached, Lead::Offer, Lead::Refuse)
+    when(s, State::Detached, Lead::To(Way::Offer), Lead::Refuse)
 }
 
 // Detach.
 fn on_detach(s: State) -> Lead
     ensures { λ r. ⌜ r ≡ onDetach s ⌝ }
 {
-    when(s, State::Detached, Lead::Refuse, Lead::Detached)
+    when(s, State::Detached, Lead::Refuse, Lead::To(Way::Detached))
 }
 
 // A heard Hard Reset.
@@ -233,7 +248,7 @@ fn on_hard_reset(s: State) -> Lead
     ensures { λ r. ⌜ r ≡ onHardReset s ⌝ }
 {
     if listens(s) {
-        Lead::HardHeard
+        Lead::To(Way::HardHeard)
     } else {
         Lead::Refuse
     }
@@ -243,46 +258,76 @@ fn on_hard_reset(s: State) -> Lead
 fn on_acknowledged(s: State, contract: Standing, gone_out: bool) -> Lead
     ensures { λ r. ⌜ r ≡ onAcknowledged s contract «gone_out» ⌝ }
 {
-    let answering = when(s, State::Answering, Lead::Offer, Lead::Stay);
-    let soft = when(s, State::Soft, Lead::Softened, answering);
-    let refusing = when(s, State::Refusing, after_reject(contract, gone_out), soft);
-    let declining = when(s, State::Declining, ready_or_offer(gone_out), refusing);
-    let telling = when(s, State::Telling, ready_or_offer(gone_out), declining);
-    let accepting = when(s, State::Accepting, Lead::Moving, telling);
-    when(s, State::Offer, Lead::Offered, accepting)
+    let answering = when(
+        s,
+        State::Answering,
+        Lead::To(Way::Offer),
+        Lead::To(Way::Stay),
+    );
+    let soft = when(s, State::Soft, Lead::To(Way::Softened), answering);
+    let refusing = when(
+        s,
+        State::Refusing,
+        Lead::To(after_reject(contract, gone_out)),
+        soft,
+    );
+    let declining = when(
+        s,
+        State::Declining,
+        Lead::To(ready_or_offer(gone_out)),
+        refusing,
+    );
+    let telling = when(
+        s,
+        State::Telling,
+        Lead::To(ready_or_offer(gone_out)),
+        declining,
+    );
+    let accepting = when(s, State::Accepting, Lead::To(Way::Moving), telling);
+    when(s, State::Offer, Lead::To(Way::Offered), accepting)
 }
 
 // No one acknowledges an offer.
-fn unheard_offer(connected: bool) -> Lead
+fn unheard_offer(connected: bool) -> Way
     ensures { λ r. ⌜ r ≡ unheardOffer connected ⌝ }
 {
-    if connected {
-        Lead::Soft
-    } else {
-        Lead::Discovery
-    }
+    if connected { Way::Soft } else { Way::Discovery }
 }
 
 // The pending message has failed.
 fn on_failed(s: State, connected: bool) -> Lead
     ensures { λ r. ⌜ r ≡ onFailed s connected ⌝ }
 {
-    let answering = when(s, State::Answering, Lead::Hard, Lead::Stay);
-    let soft = when(s, State::Soft, Lead::Hard, answering);
-    let waiting = when(s, State::Waiting, Lead::Soft, soft);
-    let declining = when(s, State::Declining, Lead::Soft, waiting);
-    let refusing = when(s, State::Refusing, Lead::Soft, declining);
-    let telling = when(s, State::Telling, Lead::Hard, refusing);
-    let moving = when(s, State::Moving, Lead::Hard, telling);
-    let accepting = when(s, State::Accepting, Lead::Hard, moving);
-    when(s, State::Offer, unheard_offer(connected), accepting)
+    let answering = when(
+        s,
+        State::Answering,
+        Lead::To(Way::Hard),
+        Lead::To(Way::Stay),
+    );
+    let soft = when(s, State::Soft, Lead::To(Way::Hard), answering);
+    let waiting = when(s, State::Waiting, Lead::To(Way::Soft), soft);
+    let declining = when(s, State::Declining, Lead::To(Way::Soft), waiting);
+    let refusing = when(s, State::Refusing, Lead::To(Way::Soft), declining);
+    let telling = when(s, State::Telling, Lead::To(Way::Hard), refusing);
+    let moving = when(s, State::Moving, Lead::To(Way::Hard), telling);
+    let accepting = when(s, State::Accepting, Lead::To(Way::Hard), moving);
+    when(
+        s,
+        State::Offer,
+        Lead::To(unheard_offer(connected)),
+        accepting,
+    )
 }
 
 // SenderResponse expires, which runs once the message is acknowledged.
 fn no_answer(pending: bool) -> Lead
     ensures { λ r. ⌜ r ≡ noAnswer pending ⌝ }
 {
-    if pending { Lead::Refuse } else { Lead::Hard }
+    if pending {
+        Lead::Refuse
+    } else {
+        Lead::To(Way::Hard)
+    }
 }
 
 // The expiry of SenderResponse.
@@ -294,40 +339,45 @@ fn on_sender_response(s: State, pending: bool) -> Lead
 }
 
 // Offer once more, or never again.
-fn offer_again(fifty: bool) -> Lead
+fn offer_again(fifty: bool) -> Way
     ensures { λ r. ⌜ r ≡ offerAgain fifty ⌝ }
 {
-    if fifty { Lead::Disabled } else { Lead::Offer }
+    if fifty { Way::Disabled } else { Way::Offer }
 }
 
 // The expiry of SourceCapability.
 fn on_source_capability(s: State, fifty: bool) -> Lead
     ensures { λ r. ⌜ r ≡ onSourceCapability s fifty ⌝ }
 {
-    when(s, State::Discovery, offer_again(fifty), Lead::Refuse)
+    when(
+        s,
+        State::Discovery,
+        Lead::To(offer_again(fifty)),
+        Lead::Refuse,
+    )
 }
 
 // The expiry of PSHardReset.
 fn on_ps_hard_reset(s: State) -> Lead
     ensures { λ r. ⌜ r ≡ onPsHardReset s ⌝ }
 {
-    when(s, State::Hard, Lead::Default, Lead::Refuse)
+    when(s, State::Hard, Lead::To(Way::Default), Lead::Refuse)
 }
 
 // The supply is ready.
 fn on_supply_ready(s: State) -> Lead
     ensures { λ r. ⌜ r ≡ onSupplyReady s ⌝ }
 {
-    let at_default = when(s, State::Default, Lead::Offer, Lead::Refuse);
-    when(s, State::Moving, Lead::Telling, at_default)
+    let at_default = when(s, State::Default, Lead::To(Way::Offer), Lead::Refuse);
+    when(s, State::Moving, Lead::To(Way::Telling), at_default)
 }
 
 // A new offer is given.
 fn on_new_offer(s: State) -> Lead
     ensures { λ r. ⌜ r ≡ onNewOffer s ⌝ }
 {
-    let waiting = when(s, State::Waiting, Lead::Offer, Lead::Stay);
-    when(s, State::Ready, Lead::Offer, waiting)
+    let waiting = when(s, State::Waiting, Lead::To(Way::Offer), Lead::To(Way::Stay));
+    when(s, State::Ready, Lead::To(Way::Offer), waiting)
 }
 
 // The power answer.
@@ -353,106 +403,106 @@ pub fn leads(s: State, e: Stimulus, f: Facts) -> Lead
         Stimulus::PsHardReset => on_ps_hard_reset(s),
         Stimulus::SupplyReady => on_supply_ready(s),
         Stimulus::NewOffer => on_new_offer(s),
-        Stimulus::Yes => on_answer(s, Lead::Accepting),
-        Stimulus::No => on_answer(s, Lead::Refusing),
+        Stimulus::Yes => on_answer(s, Lead::To(Way::Accepting)),
+        Stimulus::No => on_answer(s, Lead::To(Way::Refusing)),
     }
 }
 
 // ---- where a new packet leads
 
 // Offer and Discovery await a Request.
-fn awaiting(h: Heard) -> Lead
+fn awaiting(h: Heard) -> Way
     ensures { λ r. ⌜ r ≡ awaiting h ⌝ }
 {
     match h {
-        Heard::FittingRequest => Lead::Judge,
-        Heard::OtherRequest => Lead::Refusing,
-        Heard::Accept => Lead::Soft,
-        Heard::OtherReply => Lead::Soft,
-        Heard::GetSourceCap => Lead::Soft,
-        Heard::SoftReset => Lead::Answering,
-        Heard::Quiet => Lead::Soft,
-        Heard::Unsupported => Lead::Soft,
+        Heard::FittingRequest => Way::Judge,
+        Heard::OtherRequest => Way::Refusing,
+        Heard::Accept => Way::Soft,
+        Heard::OtherReply => Way::Soft,
+        Heard::GetSourceCap => Way::Soft,
+        Heard::SoftReset => Way::Answering,
+        Heard::Quiet => Way::Soft,
+        Heard::Unsupported => Way::Soft,
     }
 }
 
 // Ready.
-fn at_rest(h: Heard) -> Lead
+fn at_rest(h: Heard) -> Way
     ensures { λ r. ⌜ r ≡ atRest h ⌝ }
 {
     match h {
-        Heard::FittingRequest => Lead::Judge,
-        Heard::OtherRequest => Lead::Refusing,
-        Heard::Accept => Lead::Soft,
-        Heard::OtherReply => Lead::Soft,
-        Heard::GetSourceCap => Lead::Offer,
-        Heard::SoftReset => Lead::Answering,
-        Heard::Quiet => Lead::Stay,
-        Heard::Unsupported => Lead::Declining,
+        Heard::FittingRequest => Way::Judge,
+        Heard::OtherRequest => Way::Refusing,
+        Heard::Accept => Way::Soft,
+        Heard::OtherReply => Way::Soft,
+        Heard::GetSourceCap => Way::Offer,
+        Heard::SoftReset => Way::Answering,
+        Heard::Quiet => Way::Stay,
+        Heard::Unsupported => Way::Declining,
     }
 }
 
 // Judge, Refusing and Declining await no packet.
-fn answered(h: Heard) -> Lead
+fn answered(h: Heard) -> Way
     ensures { λ r. ⌜ r ≡ answered h ⌝ }
 {
     match h {
-        Heard::FittingRequest => Lead::Soft,
-        Heard::OtherRequest => Lead::Soft,
-        Heard::Accept => Lead::Soft,
-        Heard::OtherReply => Lead::Soft,
-        Heard::GetSourceCap => Lead::Soft,
-        Heard::SoftReset => Lead::Answering,
-        Heard::Quiet => Lead::Soft,
-        Heard::Unsupported => Lead::Soft,
+        Heard::FittingRequest => Way::Soft,
+        Heard::OtherRequest => Way::Soft,
+        Heard::Accept => Way::Soft,
+        Heard::OtherReply => Way::Soft,
+        Heard::GetSourceCap => Way::Soft,
+        Heard::SoftReset => Way::Answering,
+        Heard::Quiet => Way::Soft,
+        Heard::Unsupported => Way::Soft,
     }
 }
 
 // Waiting.
-fn waited(h: Heard) -> Lead
+fn waited(h: Heard) -> Way
     ensures { λ r. ⌜ r ≡ waited h ⌝ }
 {
     match h {
-        Heard::FittingRequest => Lead::Soft,
-        Heard::OtherRequest => Lead::Soft,
-        Heard::Accept => Lead::Soft,
-        Heard::OtherReply => Lead::Soft,
-        Heard::GetSourceCap => Lead::Offer,
-        Heard::SoftReset => Lead::Answering,
-        Heard::Quiet => Lead::Soft,
-        Heard::Unsupported => Lead::Soft,
+        Heard::FittingRequest => Way::Soft,
+        Heard::OtherRequest => Way::Soft,
+        Heard::Accept => Way::Soft,
+        Heard::OtherReply => Way::Soft,
+        Heard::GetSourceCap => Way::Offer,
+        Heard::SoftReset => Way::Answering,
+        Heard::Quiet => Way::Soft,
+        Heard::Unsupported => Way::Soft,
     }
 }
 
 // Soft awaits Accept.
-fn resetting(h: Heard) -> Lead
+fn resetting(h: Heard) -> Way
     ensures { λ r. ⌜ r ≡ resetting h ⌝ }
 {
     match h {
-        Heard::FittingRequest => Lead::Hard,
-        Heard::OtherRequest => Lead::Hard,
-        Heard::Accept => Lead::Offer,
-        Heard::OtherReply => Lead::Hard,
-        Heard::GetSourceCap => Lead::Hard,
-        Heard::SoftReset => Lead::Answering,
-        Heard::Quiet => Lead::Hard,
-        Heard::Unsupported => Lead::Hard,
+        Heard::FittingRequest => Way::Hard,
+        Heard::OtherRequest => Way::Hard,
+        Heard::Accept => Way::Offer,
+        Heard::OtherReply => Way::Hard,
+        Heard::GetSourceCap => Way::Hard,
+        Heard::SoftReset => Way::Answering,
+        Heard::Quiet => Way::Hard,
+        Heard::Unsupported => Way::Hard,
     }
 }
 
 // Answering awaits no packet.
-fn answering(h: Heard) -> Lead
+fn answering(h: Heard) -> Way
     ensures { λ r. ⌜ r ≡ answering h ⌝ }
 {
     match h {
-        Heard::FittingRequest => Lead::Hard,
-        Heard::OtherRequest => Lead::Hard,
-        Heard::Accept => Lead::Hard,
-        Heard::OtherReply => Lead::Hard,
-        Heard::GetSourceCap => Lead::Hard,
-        Heard::SoftReset => Lead::Answering,
-        Heard::Quiet => Lead::Hard,
-        Heard::Unsupported => Lead::Hard,
+        Heard::FittingRequest => Way::Hard,
+        Heard::OtherRequest => Way::Hard,
+        Heard::Accept => Way::Hard,
+        Heard::OtherReply => Way::Hard,
+        Heard::GetSourceCap => Way::Hard,
+        Heard::SoftReset => Way::Answering,
+        Heard::Quiet => Way::Hard,
+        Heard::Unsupported => Way::Hard,
     }
 }
 
@@ -462,19 +512,19 @@ pub fn packet_leads(s: State, h: Heard) -> Lead
 {
     match s {
         State::Detached => Lead::Refuse,
-        State::Offer => awaiting(h),
-        State::Discovery => awaiting(h),
+        State::Offer => Lead::To(awaiting(h)),
+        State::Discovery => Lead::To(awaiting(h)),
         State::Disabled => Lead::Refuse,
-        State::Judge => answered(h),
-        State::Accepting => Lead::Hard,
-        State::Moving => Lead::Hard,
-        State::Telling => Lead::Hard,
-        State::Ready => at_rest(h),
-        State::Declining => answered(h),
-        State::Refusing => answered(h),
-        State::Waiting => waited(h),
-        State::Soft => resetting(h),
-        State::Answering => answering(h),
+        State::Judge => Lead::To(answered(h)),
+        State::Accepting => Lead::To(Way::Hard),
+        State::Moving => Lead::To(Way::Hard),
+        State::Telling => Lead::To(Way::Hard),
+        State::Ready => Lead::To(at_rest(h)),
+        State::Declining => Lead::To(answered(h)),
+        State::Refusing => Lead::To(answered(h)),
+        State::Waiting => Lead::To(waited(h)),
+        State::Soft => Lead::To(resetting(h)),
+        State::Answering => Lead::To(answering(h)),
         State::Hard => Lead::Refuse,
         State::Default => Lead::Refuse,
     }

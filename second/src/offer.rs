@@ -1,0 +1,102 @@
+//! Objects, the paper's "The packet"; a good offer, "Refusal numbers"; and when a
+//! Request fits, "The Source states". Voltages, currents and power stay in the
+//! units of the fields: 50 mV, 10 mA, half a milliwatt.
+
+/// A fixed supply object. The bits that are ignored go out as they came in.
+#[derive(Clone, Copy, Debug, PartialEq, Eq)]
+pub struct Object(pub u32);
+
+const FIVE_VOLT: u32 = 5_000 / 50;
+const MOST_VOLTAGE: u32 = 20_000 / 50;
+const MOST_CURRENT: u32 = 5_000 / 10;
+
+impl Object {
+    pub fn new(voltage: u32, current: u32) -> Object {
+        Object(voltage << 10 | current)
+    }
+
+    fn is_fixed(self) -> bool {
+        self.0 >> 30 == 0
+    }
+
+    pub fn voltage(self) -> u32 {
+        self.0 >> 10 & 0x3FF
+    }
+
+    pub fn current(self) -> u32 {
+        self.0 & 0x3FF
+    }
+
+    fn worth(self) -> u32 {
+        self.voltage() * self.current()
+    }
+}
+
+/// None unless there are four bytes, least first, to every object.
+pub fn objects_of(bytes: &[u8]) -> Option<Vec<Object>> {
+    let words = bytes.chunks(4).map(|word| word.try_into().ok());
+    words
+        .map(|word| word.map(|word| Object(u32::from_le_bytes(word))))
+        .collect()
+}
+
+pub fn bytes_of(objects: &[Object]) -> Vec<u8> {
+    let words = objects.iter().map(|object| object.0.to_le_bytes());
+    words.collect::<Vec<_>>().concat()
+}
+
+pub fn is_good(offer: &[Object], limit: u32) -> bool {
+    let each = |object: &Object| {
+        object.is_fixed()
+            && object.voltage() <= MOST_VOLTAGE
+            && object.current() <= MOST_CURRENT
+            && object.worth() <= limit
+    };
+    let rising = |pair: &[Object]| pair[0].voltage() < pair[1].voltage();
+    offer.len() <= 7
+        && offer.iter().all(each)
+        && offer.windows(2).all(rising)
+        && offer.first().map(|object| object.voltage()) == Some(FIVE_VOLT)
+}
+
+/// A request that fitted, or the contract it became.
+#[derive(Clone, Copy, Debug, Default, PartialEq, Eq)]
+pub struct Deal {
+    pub position: u8,
+    pub voltage: u32,
+    pub current: u32,
+    pub worth: u32,
+}
+
+/// What a Request with these object bytes asks of this offer; None where it does
+/// not fit.
+pub fn asked(request: &[u8], offer: &[Object]) -> Option<Deal> {
+    let request = u32::from_le_bytes(request.try_into().ok()?);
+    let position = (request >> 28) as u8;
+    let current = request >> 10 & 0x3FF;
+    let most_current = request & 0x3FF;
+    let object = at(offer, position)?;
+    (current <= object.current() && most_current <= object.current()).then_some(Deal {
+        position,
+        voltage: object.voltage(),
+        current,
+        worth: object.voltage() * current,
+    })
+}
+
+/// Whether this offer still has what the contract says, at the same position.
+pub fn honours(offer: &[Object], contract: &Deal) -> bool {
+    at(offer, contract.position).is_some_and(|object| {
+        object.voltage() == contract.voltage && object.current() >= contract.current
+    })
+}
+
+/// Positions count from 1.
+fn at(offer: &[Object], position: u8) -> Option<Object> {
+    let place = usize::from(position).checked_sub(1)?;
+    offer.get(place).copied()
+}
+
+#[cfg(test)]
+#[path = "offer_tests.rs"]
+mod tests;

@@ -1,0 +1,114 @@
+//! A walk: lines for the step program, and a port that takes them as they are
+//! written, so that the next line can depend on where the port has come to.
+
+use crate::hex;
+use crate::offer::{bytes_of, Object};
+use crate::packet::{read, write, Fields};
+use crate::port::Port;
+use crate::step_lines::Bench;
+
+pub const GOOD_CRC: u8 = 1;
+pub const ACCEPT: u8 = 3;
+pub const GET_SOURCE_CAP: u8 = 7;
+pub const SOFT_RESET: u8 = 13;
+pub const REQUEST: u8 = 2;
+
+/// Worth 30,000, the first object of nearly every offer here.
+pub const FIVE_VOLT: Object = Object(0x0001_912C);
+pub const NINE_VOLT: Object = Object(0x0002_D12C);
+
+pub struct Walk {
+    pub lines: Vec<u8>,
+    bench: Bench,
+}
+
+impl Walk {
+    pub fn new() -> Walk {
+        Walk {
+            lines: Vec::new(),
+            bench: Bench::new(),
+        }
+    }
+
+    pub fn port(&self) -> &Port {
+        &self.bench.port
+    }
+
+    /// Any bytes but a line end.
+    pub fn raw(&mut self, line: &[u8]) {
+        self.lines.extend(line);
+        self.lines.push(b'\n');
+        self.bench.take(line);
+    }
+
+    pub fn say(&mut self, line: &str) {
+        self.raw(line.as_bytes());
+    }
+
+    pub fn packet(&mut self, bytes: &[u8]) {
+        self.say(&packet_line(bytes));
+    }
+
+    pub fn new_port(&mut self, limit: u32, objects: &[Object]) {
+        self.say(&with_bytes(&format!("port {limit}"), &bytes_of(objects)));
+    }
+
+    pub fn acknowledge(&mut self) {
+        let message_id = pending_id(self.port());
+        self.packet(&message(GOOD_CRC, message_id, &[]));
+    }
+
+    /// A packet that is new: not with the stored MessageID.
+    pub fn hear(&mut self, message_type: u8, objects: &[u8]) {
+        let message_id = new_id(self.port());
+        self.packet(&message(message_type, message_id, objects));
+    }
+}
+
+/// What a well-behaved receiver would send, the MessageID aside.
+pub fn message(message_type: u8, message_id: u8, objects: &[u8]) -> Vec<u8> {
+    let fields = Fields {
+        extended: false,
+        message_id,
+        power_role: 0,
+        revision: 0b10,
+        data_role: 0,
+        message_type,
+    };
+    let mut bytes = vec![0; 2 + objects.len()];
+    write(&fields, objects, &mut bytes, 0).expect("a case that can be written");
+    bytes
+}
+
+pub fn request(position: u32, current: u32, most_current: u32) -> [u8; 4] {
+    (position << 28 | current << 10 | most_current).to_le_bytes()
+}
+
+/// With nothing pending, that of the next message.
+pub fn pending_id(port: &Port) -> u8 {
+    let pending = port.channel.pending.as_ref();
+    let fields = pending.map(|pending| read(&pending.bytes).0);
+    match fields {
+        Some(Ok(fields)) => fields.message_id,
+        _ => port.channel.counter,
+    }
+}
+
+pub fn new_id(port: &Port) -> u8 {
+    port.channel.stored.map_or(0, |stored| (stored + 1) % 8)
+}
+
+pub fn packet_line(bytes: &[u8]) -> String {
+    with_bytes("packet", bytes)
+}
+
+pub fn offer_line(objects: &[Object]) -> String {
+    with_bytes("offer", &bytes_of(objects))
+}
+
+fn with_bytes(words: &str, bytes: &[u8]) -> String {
+    match bytes {
+        [] => words.to_string(),
+        _ => format!("{words} {}", hex::text_of(bytes)),
+    }
+}
