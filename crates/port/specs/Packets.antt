@@ -81,7 +81,7 @@ abbrev pub hearing : Port → ℕ → Bool → Port
 hearing p id softReset = connected-is true (channel-is (heard (p .channel) id softReset) p)
 
 -- "and the state acts"
-abbrev ledBy : Port → Fields → Meaning → Fit → Lead → Answer
+abbrev pub ledBy : Port → Fields → Meaning → Fit → Lead → Answer
 ledBy p f m fit Refuse = refusedBy NotAwaited p
 ledBy p f m fit (To way) = turn (hearing p (f .«message_id») (isSoftReset m)) (stateOf p) (crcFor f) (runningIn p) Change.Nothing way (askedBy fit)
 

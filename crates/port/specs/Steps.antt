@@ -55,7 +55,7 @@ turn p before crc runs change way a = answered before crc runs change (enter way
 
 -- ---- what can happen, new packets aside
 -- the port after the protocol rules, in whose place the old one stands while it is asked where its state leads
-abbrev ledTo : Port → Stimulus → Port → Timer → Lead → Answer
+abbrev pub ledTo : Port → Stimulus → Port → Timer → Lead → Answer
 ledTo p e after runs Refuse = refusedBy NotAwaited p
 ledTo p e after runs (To way) = turn after (stateOf p) noCrc runs (changeOf (stateOf p) e) way nothingAsked
 
@@ -102,10 +102,10 @@ eventOf p Event.Yes = happens p Stimulus.Yes p (runningIn p)
 eventOf p Event.No = happens p Stimulus.No p (runningIn p)
 
 -- "A new offer replaces the newest."
-abbrev replaced : Port → Offer → Port
+abbrev pub replaced : Port → Offer → Port
 replaced p o = newest-is o (goneOut-is false p)
 
-abbrev offerJudged : Bool → Port → Offer → Answer
+abbrev pub offerJudged : Bool → Port → Offer → Answer
 offerJudged true p o = happens p Stimulus.NewOffer (replaced p o) (runningIn p)
 offerJudged false p o = refusedBy BadOffer p
 
