@@ -10,6 +10,8 @@ use Rattle.text.proofs.put_hex.Kinds as hex-k
 use Rattle.text.proofs.put_hex.Reads as hex-c
 use Rattle.text.proofs.put_number.Kinds as number-text-k
 use Rattle.text.proofs.put_number.Reads as number-text-c
+use Rattle.text.proofs.put_decimal.Kinds as decimal-k
+use Rattle.text.proofs.put_decimal.Reads as decimal-c
 use Rattle.text.proofs.put_bytes.Kinds as bytes-k
 use Rattle.text.proofs.put_bytes.Reads as bytes-c
 use Rattle.ground.proofs.number.Kinds as number-k
@@ -119,6 +121,12 @@ put-number-place κs a x y s t p q = ap (λ (l : Line). l .at) (same p q)
 
 pub put-number-bytes : Settles 1 number-text-k.ps number-text-k.r number-text-c.Post (λ κs x s. now (s .0))
 put-number-bytes κs a x y s t p q = ap (λ (l : Line). l .text) (same p q)
+
+pub put-decimal-place : Settles 1 decimal-k.ps decimal-k.r decimal-c.Post (λ κs x s. x)
+put-decimal-place κs a x y s t p q = ap (λ (l : Line). l .at) (same p q)
+
+pub put-decimal-bytes : Settles 1 decimal-k.ps decimal-k.r decimal-c.Post (λ κs x s. now (s .0))
+put-decimal-bytes κs a x y s t p q = ap (λ (l : Line). l .text) (same p q)
 
 pub put-bytes-of-place : Settles 2 bytes-k.ps bytes-k.r bytes-c.Post (λ κs x s. x)
 put-bytes-of-place κs a x y s t p q = ap (λ (l : Line). l .at) (same p q)

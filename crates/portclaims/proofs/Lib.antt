@@ -1,1 +1,3 @@
 pub mod Shapes
+pub mod RefusedChangesNothing
+pub mod RepeatChangesNothing

@@ -1,5 +1,5 @@
 -- docs/PACKETS.md: how bytes and numbers stand in a line of text.
-use Prim.Native.Nat.{ℕ, _+_, _-_, _/_, _%_}
+use Prim.Native.Nat.{ℕ, zero, suc, _+_, _-_, _/_, _%_}
 use mathlib.Core.Bool.{Bool, cond, _&&_}
 use mathlib.Core.List.{List, [], _∷_}
 use lib.Dec.{ltb, leb}
@@ -34,6 +34,15 @@ numberOf n =
     cond (ltb n 10) (glyphOf (n % 10) ∷ [])
     (cond (ltb n 100) (glyphOf (n / 10 % 10) ∷ (glyphOf (n % 10) ∷ []))
     (glyphOf (n / 100) ∷ (glyphOf (n / 10 % 10) ∷ (glyphOf (n % 10) ∷ []))))
+
+-- the digits of a number in front of others, at most so many more, the last first: n / 10 in front of n % 10
+unfoldable pub digitsBefore : ℕ → ℕ → List ℕ → List ℕ
+digitsBefore zero n behind = behind
+digitsBefore (suc most) n behind = cond (ltb n 10) (glyphOf (n % 10) ∷ behind) (digitsBefore most (n / 10) (glyphOf (n % 10) ∷ behind))
+
+-- a number below 2^32, which has ten digits at most, in decimal, with no zeros in front
+abbrev pub decimalOf : ℕ → List ℕ
+decimalOf n = digitsBefore 10 n []
 
 -- bytes with a blank between two, or a dash where there are none
 abbrev blank : List ℕ

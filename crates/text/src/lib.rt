@@ -1,10 +1,10 @@
-// Lines of text for people, put together in a lent buffer: words, bytes in hexadecimal, small
-// numbers. A piece that has no room is left out whole. Each call promises the place after it and every
-// byte of the buffer.
+// Lines of text for people, put together in a lent buffer: words, bytes in hexadecimal, numbers. A
+// piece that has no room is left out whole. Each call promises the place after it and every byte of the
+// buffer.
 ghost use Prim.Native.Nat.{_<_};
 ghost use mathlib.Core.Path.{_≡_};
 ghost use mathlib.Core.List.{[], _∷_};
-ghost use Rattle.text.specs.Text.{line, typed, glyphOf, hexOf, numberOf, typedBytes};
+ghost use Rattle.text.specs.Text.{line, typed, glyphOf, hexOf, numberOf, decimalOf, typedBytes};
 
 // Puts a piece of text at a place of the line.
 pub fn put(out: &mut [u8], at: usize, piece: &[u8]) -> usize
@@ -49,6 +49,24 @@ pub fn put_number(out: &mut [u8], at: usize, n: u8) -> usize
         return put(out, at, &digits);
     }
     let digits = [glyph(n / 100), glyph(n / 10 % 10), glyph(n % 10)];
+    put(out, at, &digits)
+}
+
+// Puts a number in decimal: its digits come from the last to the first.
+pub fn put_decimal(out: &mut [u8], at: usize, n: u32) -> usize
+    ensures { λ r. ⌜ line (now (out .exit)) r ≡ typed (decimalOf n) (line (now (out .entry)) at) ⌝ }
+{
+    let mut digits = [0u8; 10];
+    let mut left = n;
+    let mut i: usize = 10;
+    while 0 < i {
+        i -= 1;
+        digits[i] = glyph((left % 10) as u8);
+        if left < 10 {
+            return put(out, at, &digits[i..10]);
+        }
+        left = left / 10;
+    }
     put(out, at, &digits)
 }
 

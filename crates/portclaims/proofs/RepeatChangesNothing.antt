@@ -1,0 +1,74 @@
+-- While a port listens, a readable packet that repeats the stored MessageID, Soft_Reset and GoodCRC aside, gets its GoodCRC again and changes nothing.
+-- Assumes nothing.
+use Prim.Native.Nat.{ℕ}
+use mathlib.Core.Path.{_≡_, refl, sym, _∙_}
+use mathlib.Core.Bool.{Bool, true, false, cond}
+use mathlib.Core.List.{List}
+use lib.Dec.{T}
+use Rattle.ground.specs.declared.Verdict.the-variants.{Fine}
+use Rattle.message.specs.declared.Fields.{Fields}
+use Rattle.meaning.specs.declared.Meaning.{Meaning}
+use Rattle.reading.specs.declared.Reading.{Reading}
+use Rattle.reading.specs.Reading.{readOf}
+use Rattle.offers.specs.declared.Fit.{Fit}
+use Rattle.outgoing.specs.Packets.{noPacket}
+use Rattle.channel.specs.Channel.{isRepeat}
+use Rattle.power.specs.declared.Change.{Change}
+use Rattle.source.specs.declared.State.{State}
+use Rattle.source.specs.declared.Timer.{Timer}
+use Rattle.source.specs.declared.Timer.the-variants.{NoTimer}
+use Rattle.source.specs.States.{same, listens, stopped}
+use Rattle.port.specs.declared.Supply.the-variants.{Unchanged}
+use Rattle.port.specs.declared.GoodCrc.{GoodCrc}
+use Rattle.port.specs.declared.Port.{Port}
+use Rattle.port.specs.declared.Actions.{Actions}
+use Rattle.port.specs.declared.Answer.{Answer}
+use Rattle.port.specs.Memory.{stateOf}
+use Rattle.port.specs.Steps.{nothingDone}
+use Rattle.port.specs.Packets.{meaningIn, crcFor, otherPacket, byMeaning, messageOf, packetOf}
+use Rattle.portclaims.proofs.Shapes.{fitIn}
+
+-- the same port, and nothing done but a GoodCRC
+abbrev pub onlyGoodCrc : Fields → Port → Answer
+onlyGoodCrc f p =
+    record {
+      verdict = Fine;
+      port = p;
+      actions = record { «good_crc» = crcFor f; stop = NoTimer; transmit = noPacket; «hard_reset» = false; supply = Unchanged; start = NoTimer };
+      held = Change.Nothing;
+    }
+
+-- "Soft_Reset and GoodCRC aside"
+abbrev pub aside : Meaning → Bool
+aside Meaning.Unsupported = false
+aside Meaning.GoodCrc = true
+aside Meaning.Reply = false
+aside Meaning.GetSourceCap = false
+aside Meaning.SoftReset = true
+aside Meaning.Quiet = false
+aside Meaning.Request = false
+
+either-way : (b : Bool) → cond b NoTimer NoTimer ≡ NoTimer
+either-way true = refl
+either-way false = refl
+
+nothing-else : (f : Fields) (p : Port) → nothingDone (crcFor f) p ≡ onlyGoodCrc f p
+unfolding nothingDone
+nothing-else f p = rw (either-way (same (stateOf p) (stateOf p))) refl
+
+module _ (p : Port) (f : Fields) (fit : Fit) (again : isRepeat (p .channel) (f .«message_id») ≡ true) where
+  by-meaning : (m : Meaning) → aside m ≡ false → byMeaning m p f fit ≡ onlyGoodCrc f p
+  unfolding byMeaning otherPacket
+  by-meaning Meaning.Unsupported e = rw again (nothing-else f p)
+  by-meaning Meaning.GoodCrc e = cc
+  by-meaning Meaning.Reply e = rw again (nothing-else f p)
+  by-meaning Meaning.GetSourceCap e = rw again (nothing-else f p)
+  by-meaning Meaning.SoftReset e = cc
+  by-meaning Meaning.Quiet e = rw again (nothing-else f p)
+  by-meaning Meaning.Request e = rw again (nothing-else f p)
+
+-- THE CLAIM
+pub repeat-changes-nothing : (p : Port) (s : List ℕ) (n : ℕ) (f : Fields) → listens (stateOf p) ≡ true → readOf s ≡ Reading.Message n f →
+    isRepeat (p .channel) (f .«message_id») ≡ true → aside (meaningIn n f) ≡ false → packetOf p s ≡ onlyGoodCrc f p
+unfolding packetOf messageOf
+repeat-changes-nothing p s n f l e again k = rw (e, l) (by-meaning p f (fitIn p n s) again (meaningIn n f) k)
