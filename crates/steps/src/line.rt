@@ -1,0 +1,41 @@
+// A line of input as it comes in, character by character.
+
+pub struct Line {
+    // The first 240 characters, how many there are, and how many without the spaces and carriage
+    // returns at the end.
+    pub chars: [u8; 240],
+    pub length: usize,
+    pub end: usize,
+    // Whether any character has come, and whether one found no place.
+    pub started: bool,
+    pub long: bool,
+}
+
+impl Line {
+    pub fn new() -> Line {
+        Line {
+            chars: [0u8; 240],
+            length: 0,
+            end: 0,
+            started: false,
+            long: false,
+        }
+    }
+
+    // The line with one more character.
+    pub fn with(mut self, c: u8) -> Line {
+        let length = self.length;
+        self.started = true;
+        if 240 <= length {
+            self.long = true;
+            return self;
+        }
+        self.chars[length] = c;
+        self.length = length + 1;
+        if (c == b' ') | (c == b'\r') {
+            return self;
+        }
+        self.end = length + 1;
+        self
+    }
+}
