@@ -5,3 +5,4 @@ pub mod Truth
 pub mod Ways
 pub mod Channels
 pub mod Tables
+pub mod Between
