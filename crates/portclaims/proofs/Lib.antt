@@ -5,4 +5,6 @@ pub mod Truth
 pub mod Ways
 pub mod Channels
 pub mod Tables
+pub mod Led
 pub mod Between
+pub mod AcceptExactly

@@ -37,8 +37,9 @@ fn put_refusal(out: &mut [u8], at: usize, r: Refusal) -> usize {
             end,
             b"extended with Chunked clear, or written without object",
         ),
-        Refusal::NoRoom => text::put(out, end, b"not of a port"),
-        Refusal::OutOfRange => text::put(out, end, b"not of a port"),
+        // Writing alone refuses so, and no port does.
+        Refusal::NoRoom => end,
+        Refusal::OutOfRange => end,
         Refusal::BadOffer => text::put(out, end, b"bad offer"),
         Refusal::NotAwaited => text::put(out, end, b"the event is not awaited in this state"),
     }
@@ -121,8 +122,8 @@ fn put_supply(out: &mut [u8], first: usize, at: usize, x: Supply) -> usize {
     }
 }
 
-// The actions on the wire, and the others.
-fn put_sent(out: &mut [u8], first: usize, a: Actions) -> usize {
+// The first three actions, and the last three.
+fn put_first_three(out: &mut [u8], first: usize, a: Actions) -> usize {
     let crc = a.good_crc;
     let stop = a.stop;
     let m = a.transmit;
@@ -131,7 +132,7 @@ fn put_sent(out: &mut [u8], first: usize, a: Actions) -> usize {
     put_transmit(out, first, stopped, m)
 }
 
-fn put_set(out: &mut [u8], first: usize, at: usize, a: Actions) -> usize {
+fn put_last_three(out: &mut [u8], first: usize, at: usize, a: Actions) -> usize {
     let supply = a.supply;
     let start = a.start;
     let signalled = put_signal(out, first, at, a.hard_reset);
@@ -141,8 +142,8 @@ fn put_set(out: &mut [u8], first: usize, at: usize, a: Actions) -> usize {
 
 fn put_actions(out: &mut [u8], at: usize, a: Actions) -> usize {
     let first = text::put(out, at, b"actions: ");
-    let sent = put_sent(out, first, a);
-    let end = put_set(out, first, sent, a);
+    let sent = put_first_three(out, first, a);
+    let end = put_last_three(out, first, sent, a);
     if end == first {
         return text::put(out, end, b"none");
     }

@@ -24,7 +24,8 @@ pub struct Rest {
     pub bytes: [u8; 64],
     pub count: usize,
     pub objects: [u32; 7],
-    // How many digits of the byte in hand there are; two of them ask for a space.
+    // How many digits of the byte in hand there are; behind two of them, as behind the word, stands a
+    // space.
     pub digits: u8,
     pub high: u8,
     pub odd: bool,
@@ -315,6 +316,7 @@ impl Bench {
         let bytes = r.bytes;
         let p = self.port;
         match word {
+            // No such line is understood, and so none comes here; an offer of no objects is refused.
             Word::Unknown => self.new_port(0, r.offer()),
             Word::Lone(e) => Step {
                 answer: p.event(e),

@@ -6,8 +6,7 @@ pub struct Line {
     pub chars: [u8; 240],
     pub length: usize,
     pub end: usize,
-    // Whether any character has come, and whether one found no place.
-    pub started: bool,
+    // Whether there were more.
     pub long: bool,
 }
 
@@ -17,7 +16,6 @@ impl Line {
             chars: [0u8; 240],
             length: 0,
             end: 0,
-            started: false,
             long: false,
         }
     }
@@ -25,7 +23,6 @@ impl Line {
     // The line with one more character.
     pub fn with(mut self, c: u8) -> Line {
         let length = self.length;
-        self.started = true;
         if 240 <= length {
             self.long = true;
             return self;

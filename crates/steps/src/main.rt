@@ -9,6 +9,7 @@ use libc::STDIN_FILENO;
 use libc::STDOUT_FILENO;
 use line::Line;
 
+// Writes the first bytes.
 fn say(out: &[u8], n: usize) {
     if n <= out.len() {
         io::write_all(STDOUT_FILENO, &out[0..n]);
@@ -104,7 +105,7 @@ fn main() {
     }
     let l = k.line;
     let b = k.bench;
-    if l.started {
+    if 0 < l.length {
         respond(l, b);
     }
 }
