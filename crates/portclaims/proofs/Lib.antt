@@ -8,3 +8,5 @@ pub mod Tables
 pub mod Led
 pub mod Between
 pub mod AcceptExactly
+pub mod Transmissions
+pub mod CountsOneOn

@@ -1,1 +1,2 @@
 pub mod Between
+pub mod Messages

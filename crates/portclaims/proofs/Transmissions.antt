@@ -1,0 +1,169 @@
+-- Every transmission is either the first of a message made in that event or the pending bytes again after fewer than two retries; what is pending was made in one
+-- event and kept ever since, so what was acknowledged, has failed or was dropped is never sent again. Assumes nothing.
+use Prim.Native.Nat.{ℕ, _+_, _<_}
+use mathlib.Core.Path.{_≡_, refl, sym, ap, _∙_}
+use mathlib.Core.Bool.{Bool, true, false, cond}
+use mathlib.Core.List.{List, [], _∷_}
+use mathlib.Core.Logic.{_⊎_, inl, inr}
+use lib.Dec.{ltb}
+use Rattle.message.specs.Types as Types
+use Rattle.offers.specs.declared.Asked.{Asked}
+use Rattle.outgoing.specs.declared.Packet.{Packet}
+use Rattle.outgoing.specs.Packets.{noPacket}
+use Rattle.channel.specs.declared.Channel.{Channel}
+use Rattle.channel.specs.Channel.{isPending, mostRetries, fresh, ended, again as once-again, heard as hears, sends}
+use Rattle.power.specs.declared.Change.{Change}
+use Rattle.power.specs.Power.{nothingAsked}
+use Rattle.source.specs.declared.State.{State}
+use Rattle.source.specs.declared.Stimulus.{Stimulus}
+use Rattle.source.specs.declared.Timer.{Timer}
+use Rattle.source.specs.declared.Way.{Way}
+use Rattle.source.specs.Changes.{changeOf}
+use Rattle.port.specs.declared.GoodCrc.{GoodCrc}
+use Rattle.port.specs.declared.Port.{Port}
+use Rattle.port.specs.declared.Answer.{Answer}
+use Rattle.port.specs.declared.Entered.{Entered}
+use Rattle.port.specs.Memory.{stateOf, pendingIn}
+use Rattle.port.specs.Entering.{enter}
+use Rattle.port.specs.Steps.{withChange, turn, nothingDone, resent}
+use Rattle.port.specs.Packets.{hearing, isSoftReset}
+use Rattle.port.specs.Calls.{Call, step, run}
+use Rattle.portclaims.specs.Messages.{control, offer, First, SentAgain, Transmits, nothing, first, again, Fate, kept, made, gone, Kept, to-the-end, through, Made, at-once, later}
+use Rattle.portclaims.proofs.Truth.{true-not-false, below}
+use Rattle.portclaims.proofs.Shapes.{Rule, by-attach, by-detach, by-hard-reset, by-acknowledgement, by-failure, by-sender-response, by-source-capability, by-ps-hard-reset, by-supply-ready, by-yes, by-no, by-offer, Shape, refused, idle, again as sent-again, led, heard, shape}
+
+-- ---- what a way does to the pending message: it is kept, or one is made, or none is left
+pub data Passed (p : Port) (e : Entered) : Type 0 where
+  keeps : e .transmit ≡ noPacket → e .port .channel ≡ p .channel → Passed p e
+  makes : First (e .port) (e .transmit) → Passed p e
+  clears : e .transmit ≡ noPacket → e .port .channel ≡ fresh → Passed p e
+
+passed : (w : Way) (a : Asked) (p : Port) → Passed p (enter w a p)
+unfolding enter sends
+passed Way.Stay a p = keeps refl refl
+passed Way.Offered a p = keeps refl refl
+passed Way.Softened a p = keeps refl refl
+passed Way.Offer a p = makes (record { pending = refl; ours = offer (p .channel .counter) (p .newest .objects) (p .newest .count) })
+passed Way.Discovery a p = keeps refl refl
+passed Way.Disabled a p = keeps refl refl
+passed Way.Judge a p = keeps refl refl
+passed Way.Accepting a p = makes (record { pending = refl; ours = control Types.Accept (p .channel .counter) })
+passed Way.Moving a p = keeps refl refl
+passed Way.Telling a p = makes (record { pending = refl; ours = control Types.PsRdy (p .channel .counter) })
+passed Way.Ready a p = keeps refl refl
+passed Way.Declining a p = makes (record { pending = refl; ours = control Types.NotSupported (p .channel .counter) })
+passed Way.Refusing a p = makes (record { pending = refl; ours = control Types.Reject (p .channel .counter) })
+passed Way.Waiting a p = keeps refl refl
+passed Way.Soft a p = makes (record { pending = refl; ours = control Types.SoftReset 0 })
+passed Way.Answering a p = makes (record { pending = refl; ours = control Types.Accept (p .channel .counter) })
+passed Way.Hard a p = clears refl refl
+passed Way.HardHeard a p = clears refl refl
+passed Way.Default a p = keeps refl refl
+passed Way.Detached a p = keeps refl refl
+
+change-channel : (c : Change) (p : Port) → withChange c p .channel ≡ p .channel
+change-channel Change.Nothing p = refl
+change-channel Change.Accepted p = refl
+change-channel Change.InForce p = refl
+change-channel Change.GivenUp p = refl
+
+-- ---- a step
+module _ (q : Port) (s : State) (crc : GoodCrc) (t : Timer) (c : Change) (w : Way) (a : Asked) where
+  turn-transmits : (p : Port) → Passed (withChange c q) (enter w a (withChange c q)) → Transmits p (turn q s crc t c w a)
+  unfolding turn
+  turn-transmits p (keeps n h) = nothing n
+  turn-transmits p (makes f) = first f
+  turn-transmits p (clears n h) = nothing n
+
+  -- from a port whose channel is p's, or has nothing pending
+  turn-fate : (p : Port) → (q .channel ≡ p .channel) ⊎ (pendingIn q ≡ false) → Passed (withChange c q) (enter w a (withChange c q)) → Fate p (turn q s crc t c w a)
+  unfolding turn
+  turn-fate p (inl e) (keeps n h) =
+      let same = h ∙ change-channel c q ∙ e in
+      kept (ap (λ (x : Channel). x .pending .packet) same) (ap (λ (x : Channel). x .counter) same)
+  turn-fate p (inr e) (keeps n h) = gone (ap isPending (h ∙ change-channel c q) ∙ e)
+  turn-fate p g (makes f) = made f
+  turn-fate p g (clears n h) = gone (ap isPending h)
+
+module _ (p : Port) where
+  after-rule : (c : Call) (e : Stimulus) (q : Port) (t : Timer) → Rule p c e q t → (q .channel ≡ p .channel) ⊎ (pendingIn q ≡ false)
+  unfolding ended
+  after-rule c e q t by-attach = inr refl
+  after-rule c e q t by-detach = inr refl
+  after-rule c e q t by-hard-reset = inl refl
+  after-rule c e q t (by-acknowledgement d on) = inr refl
+  after-rule c e q t (by-failure d on) = inr refl
+  after-rule c e q t by-sender-response = inl refl
+  after-rule c e q t by-source-capability = inl refl
+  after-rule c e q t by-ps-hard-reset = inl refl
+  after-rule c e q t by-supply-ready = inl refl
+  after-rule c e q t by-yes = inl refl
+  after-rule c e q t by-no = inl refl
+  after-rule c e q t (by-offer limit o good) = inl refl
+
+  none-once-heard : (id : ℕ) (soft : Bool) → pendingIn (hearing p id soft) ≡ false
+  unfolding hears
+  none-once-heard id soft = refl
+
+  transmitted : (c : Call) (a : Answer) → Shape p c a → Transmits p a
+  unfolding nothingDone resent once-again
+  transmitted c a (refused d r) = nothing refl
+  transmitted c a (idle d crc) = nothing refl
+  transmitted c a (sent-again d on few) =
+      again
+      (record {
+        was-pending = on;
+        few = below (p .channel .pending .retries) mostRetries few;
+        same-bytes = refl;
+        one-more = rw few refl;
+      })
+  transmitted c a (led d e q t way rule l) = turn-transmits q _ _ _ (changeOf (stateOf p) e) way nothingAsked p (passed way nothingAsked (withChange (changeOf (stateOf p) e) q))
+  transmitted c a (heard s n f m way new l) = turn-transmits (hearing p (f .«message_id») (isSoftReset m)) _ _ _ Change.Nothing way _ p (passed way _ (hearing p (f .«message_id») (isSoftReset m)))
+
+  fated : (c : Call) (a : Answer) → Shape p c a → Fate p a
+  unfolding nothingDone resent once-again
+  fated c a (refused d r) = kept refl refl
+  fated c a (idle d crc) = kept refl refl
+  fated c a (sent-again d on few) = kept refl refl
+  fated c a (led d e q t way rule l) = turn-fate q _ _ _ (changeOf (stateOf p) e) way nothingAsked p (after-rule d e q t rule) (passed way nothingAsked (withChange (changeOf (stateOf p) e) q))
+  fated c a (heard s n f m way new l) =
+      turn-fate (hearing p (f .«message_id») (isSoftReset m)) _ _ _ Change.Nothing way _ p (inr (none-once-heard (f .«message_id») (isSoftReset m)))
+      (passed way _ (hearing p (f .«message_id») (isSoftReset m)))
+
+  -- THE CLAIM
+  pub transmits : (c : Call) → Transmits p (step p c)
+  transmits c = transmitted c (step p c) (shape p c)
+
+  pub fate : (c : Call) → Fate p (step p c)
+  fate c = fated c (step p c) (shape p c)
+
+-- ---- any list of calls
+abbrev pendingPacket : Port → Packet
+pendingPacket p = p .channel .pending .packet
+
+starts-with : (m : Packet) (p : Port) (cs : List Call) → Kept m p cs → pendingPacket p ≡ m
+starts-with m p cs (to-the-end q e) = e
+starts-with m p cs (through q c ds e k) = e
+
+-- one call more in front
+module _ (m : Packet) (is : ltb 0 (m .length) ≡ true) (p : Port) (c : Call) (cs : List Call) where
+  in-front : Fate p (step p c) → Kept m (step p c .port) cs → Kept m p (c ∷ cs) ⊎ Made m p (c ∷ cs)
+  in-front (kept e n) k = inl (through p c cs (sym e ∙ starts-with m (step p c .port) cs k) k)
+  in-front (made f) k = inr (at-once p c cs f (sym (ap (λ (x : _). x .packet) (f .pending)) ∙ starts-with m (step p c .port) cs k) k)
+  in-front (gone e) k = true-not-false (sym (ap (λ (x : Packet). ltb 0 (x .length)) (starts-with m (step p c .port) cs k) ∙ is) ∙ e)
+
+pub kept-or-made : (p : Port) (cs : List Call) → pendingIn (run p cs) ≡ true → Kept (pendingPacket (run p cs)) p cs ⊎ Made (pendingPacket (run p cs)) p cs
+kept-or-made p [] on = inl (to-the-end p refl)
+kept-or-made p (c ∷ cs) on = by-rest (kept-or-made (step p c .port) cs on)
+  where
+    by-rest : Kept (pendingPacket (run p (c ∷ cs))) (step p c .port) cs ⊎ Made (pendingPacket (run p (c ∷ cs))) (step p c .port) cs → Kept (pendingPacket (run p (c ∷ cs))) p (c ∷ cs) ⊎ Made (pendingPacket (run p (c ∷ cs))) p (c ∷ cs)
+    by-rest (inl k) = in-front (pendingPacket (run p (c ∷ cs))) on p c cs (fate p c) k
+    by-rest (inr k) = inr (later p c cs k)
+
+-- THE CLAIM: from a port with nothing pending, whatever is pending after some calls, and so whatever may go out again, was made in one of them and kept since
+pub what-is-pending-was-made : (p : Port) (cs : List Call) → pendingIn p ≡ false → pendingIn (run p cs) ≡ true → Made (pendingPacket (run p cs)) p cs
+what-is-pending-was-made p cs none on = not-kept (kept-or-made p cs on)
+  where
+    not-kept : Kept (pendingPacket (run p cs)) p cs ⊎ Made (pendingPacket (run p cs)) p cs → Made (pendingPacket (run p cs)) p cs
+    not-kept (inl k) = true-not-false (sym (ap (λ (x : Packet). ltb 0 (x .length)) (starts-with (pendingPacket (run p cs)) p cs k) ∙ on) ∙ none)
+    not-kept (inr k) = k

@@ -1,0 +1,52 @@
+-- What the claims about messages say: a message is made and goes out for the first time, goes out again, stays pending, or is gone.
+use Prim.Native.Nat.{ℕ, _+_, _<_}
+use mathlib.Core.Path.{_≡_}
+use mathlib.Core.Bool.{true, false}
+use mathlib.Core.List.{List, [], _∷_}
+use Rattle.message.specs.Types as Types
+use Rattle.outgoing.specs.declared.Packet.{Packet}
+use Rattle.outgoing.specs.Packets.{noPacket, controlOf, dataOf}
+use Rattle.channel.specs.Channel.{mostRetries}
+use Rattle.port.specs.declared.Port.{Port}
+use Rattle.port.specs.declared.Answer.{Answer}
+use Rattle.port.specs.Memory.{pendingIn}
+use Rattle.port.specs.Calls.{Call, step}
+
+-- a message of ours with this MessageID
+pub data Ours : Packet → ℕ → Type 0 where
+  control : (type id : ℕ) → Ours (controlOf type id) id
+  offer : (id : ℕ) (objects : List ℕ) (count : ℕ) → Ours (dataOf Types.SourceCapabilities id objects count) id
+
+-- message m goes out of a port for the first time: it is made with the counter as its MessageID, and is now pending
+pub record First (p : Port) (m : Packet) : Type 0 where
+  pub pending : p .channel .pending ≡ record { packet = m; retries = 0 }
+  pub ours : Ours m (p .channel .counter)
+
+-- what port p had pending goes out again: the same bytes, after fewer than two retries, and now with one more
+pub record SentAgain (p : Port) (a : Answer) : Type 0 where
+  pub was-pending : pendingIn p ≡ true
+  pub few : p .channel .pending .retries < mostRetries
+  pub same-bytes : a .actions .transmit ≡ p .channel .pending .packet
+  pub one-more : a .port .channel .pending ≡ record { packet = p .channel .pending .packet; retries = p .channel .pending .retries + 1 }
+
+-- what an answer transmits
+pub data Transmits (p : Port) (a : Answer) : Type 0 where
+  nothing : a .actions .transmit ≡ noPacket → Transmits p a
+  first : First (a .port) (a .actions .transmit) → Transmits p a
+  again : SentAgain p a → Transmits p a
+
+-- what becomes of the pending message
+pub data Fate (p : Port) (a : Answer) : Type 0 where
+  kept : a .port .channel .pending .packet ≡ p .channel .pending .packet → a .port .channel .counter ≡ p .channel .counter → Fate p a
+  made : First (a .port) (a .actions .transmit) → Fate p a
+  gone : pendingIn (a .port) ≡ false → Fate p a
+
+-- message m stays pending, from port p on through some calls
+pub data Kept (m : Packet) : Port → List Call → Type 0 where
+  to-the-end : (p : Port) → p .channel .pending .packet ≡ m → Kept m p []
+  through : (p : Port) (c : Call) (cs : List Call) → p .channel .pending .packet ≡ m → Kept m (step p c .port) cs → Kept m p (c ∷ cs)
+
+-- message m is made by one of some calls to port p, goes out in it for the first time, and stays pending since
+pub data Made (m : Packet) : Port → List Call → Type 0 where
+  at-once : (p : Port) (c : Call) (cs : List Call) → First (step p c .port) (step p c .actions .transmit) → step p c .actions .transmit ≡ m → Kept m (step p c .port) cs → Made m p (c ∷ cs)
+  later : (p : Port) (c : Call) (cs : List Call) → Made m (step p c .port) cs → Made m p (c ∷ cs)
