@@ -397,10 +397,14 @@ module _ (p : Port) (k : Between p) where
     abbrev atDeclining : Bool
     atDeclining = implies (same (stateOf p) State.Declining) (isMade (p .power .contract))
 
+    abbrev atDetached : Bool
+    atDetached = implies (same (stateOf p) State.Detached) (not (isMade (p .power .contract)))
+
     was-calm : (atReady && atDeclining) ≡ true
     was-calm =
-        let behind = second (pends (stateOf p) (pendingIn p)) (atReady && (atWaiting && atDeclining)) (k .calmly) in
-        and atReady atDeclining (first atReady (atWaiting && atDeclining) behind) (second atWaiting atDeclining (second atReady (atWaiting && atDeclining) behind))
+        let behind = second (pends (stateOf p) (pendingIn p)) (atReady && (atWaiting && (atDeclining && atDetached))) (k .calmly) in
+        let last = second atWaiting (atDeclining && atDetached) (second atReady (atWaiting && (atDeclining && atDetached)) behind) in
+        and atReady atDeclining (first atReady (atWaiting && (atDeclining && atDetached)) behind) (first atDeclining atDetached last)
 
     none-left : pendingIn hearer ≡ false
     unfolding heard

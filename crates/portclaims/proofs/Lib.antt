@@ -10,3 +10,5 @@ pub mod Between
 pub mod AcceptExactly
 pub mod Transmissions
 pub mod CountsOneOn
+pub mod HeldByChange
+pub mod SlipsOfTheOldFirmware

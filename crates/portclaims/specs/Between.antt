@@ -41,13 +41,14 @@ abbrev pub isMade : Contract → Bool
 isMade Contract.Nothing = false
 isMade (Contract.Made a) = true
 
--- "Ready has a contract and Waiting has none, both with the newest offer gone out"; a port that is Declining was Ready
+-- "Ready has a contract and Waiting has none, both with the newest offer gone out"; a port that is Declining was Ready, and one that is Detached has none
 abbrev pub calm : State → Bool → Bool → Bool → Bool
 calm s pending goneOut made =
     pends s pending
     && (implies (same s State.Ready) (goneOut && made)
     && (implies (same s State.Waiting) (goneOut && not made)
-    && implies (same s State.Declining) made))
+    && (implies (same s State.Declining) made
+    && implies (same s State.Detached) (not made))))
 
 -- where held power may be more than the contract's: from the Accept until it is in force, and until a Hard Reset is over
 abbrev pub inBetween : State → Bool

@@ -1,0 +1,200 @@
+-- The five slips of the old firmware, each ruled out by a claim of its own. Assumes nothing.
+use Prim.Native.Nat.{ℕ, max, _≤_}
+use native.Mathlib.Omega.{arith}
+use mathlib.Core.Path.{_≡_, refl, sym, ap, _∙_}
+use mathlib.Core.Bool.{Bool, true, false, not, cond, _&&_, _||_}
+use mathlib.Core.List.{List}
+use lib.Dec.{T, ltb}
+use Rattle.message.specs.declared.Fields.{Fields}
+use Rattle.message.specs.Types as Types
+use Rattle.meaning.specs.declared.Meaning.{Meaning}
+use Rattle.reading.specs.declared.Reading.{Reading}
+use Rattle.reading.specs.Reading.{readOf, partOf}
+use Rattle.offers.specs.declared.Asked.{Asked}
+use Rattle.offers.specs.declared.Offer.{Offer}
+use Rattle.offers.specs.Requests.{asked}
+use Rattle.outgoing.specs.Packets.{noPacket, controlOf}
+use Rattle.channel.specs.declared.Stored.{Stored}
+use Rattle.channel.specs.Channel.{isPending, isRepeat, nextId, mostRetries, fresh, ended, heard as hears, sends}
+use Rattle.channel.specs.Outcomes.{onExpiry}
+use Rattle.power.specs.declared.Change.{Change}
+use Rattle.source.specs.declared.State.{State}
+use Rattle.source.specs.declared.Stimulus.{Stimulus}
+use Rattle.source.specs.declared.Heard.{Heard}
+use Rattle.source.specs.declared.Facts.{Facts}
+use Rattle.source.specs.declared.Lead.{Lead}
+use Rattle.source.specs.declared.Lead.the-variants.{Refuse, To}
+use Rattle.source.specs.declared.Way.{Way}
+use Rattle.source.specs.States.{same, listens}
+use Rattle.source.specs.Leads.{leads}
+use Rattle.source.specs.Packets.{onPacket}
+use Rattle.source.specs.Changes.{changeOf}
+use Rattle.source.proofs.Finite.{everywhere}
+use Rattle.port.specs.declared.Port.{Port}
+use Rattle.port.specs.declared.Answer.{Answer}
+use Rattle.port.specs.declared.Event.{Event}
+use Rattle.port.specs.Memory.{stateOf, pendingIn, factsOf}
+use Rattle.port.specs.Entering.{enter}
+use Rattle.port.specs.Steps.{turn, happens, failed, byOutcome, nothingDone, resent, eventOf, replaced}
+use Rattle.port.specs.Packets.{firstObject, meaningIn, heardAs, otherPacket, newPacket, byMeaning, messageOf, packetOf}
+use Rattle.port.specs.Calls.{Call, event, packet, step}
+use Rattle.portclaims.specs.Between.{implies, isReset, Between}
+use Rattle.portclaims.proofs.Truth.{holds, true-not-false, then}
+use Rattle.portclaims.proofs.Led.{at-way, is-same}
+use Rattle.portclaims.proofs.Between.{step-keeps}
+use Rattle.portclaims.proofs.HeldByChange.{heldAfter, held-by-change}
+use Rattle.portclaims.proofs.AcceptExactly.{FittingRequest, comes-to-ask}
+use Rattle.portclaims.proofs.Shapes.{fitIn, New, Shape, refused, idle, again, led, heard, shape}
+
+-- ---- "Old power let go when the new Accept goes out, though the output has not moved."
+-- power is let go where the new contract is in force, or all is given up, and nowhere else
+abbrev pub letsGo : Change → Bool
+letsGo Change.Nothing = false
+letsGo Change.Accepted = false
+letsGo Change.InForce = true
+letsGo Change.GivenUp = true
+
+no-less : (c : Change) (held want : ℕ) → letsGo c ≡ false → held ≤ heldAfter c held want
+no-less Change.Nothing held want e = omega arith
+no-less Change.Accepted held want e = omega arith
+no-less Change.InForce held want e = true-not-false e
+no-less Change.GivenUp held want e = true-not-false e
+
+-- THE CLAIM
+pub old-power-is-kept : (p : Port) → Between p → (c : Call) → letsGo (step p c .held) ≡ false → p .power .held ≤ step p c .port .power .held
+old-power-is-kept p k c e = rw (held-by-change p k c) (no-less (step p c .held) (p .power .held) (p .power .accepted .worth) e)
+
+-- ---- "A Request judged by the newest offer, not the last on the wire."
+still-fits : (p : Port) (o : Offer) (s : List ℕ) → FittingRequest p s → FittingRequest (replaced p o) s
+still-fits p o s r =
+    record {
+      objects = r .objects;
+      fields = r .fields;
+      new = record { read = r .new .read; listening = r .new .listening; meaning = r .new .meaning; fresh = r .new .fresh };
+      awaited = r .awaited;
+      fitting = r .fitting;
+    }
+
+-- THE CLAIM: with any newest offer that has not gone out, a Request that fits the last offer is judged by the last offer
+pub judged-by-the-last-offer : (p : Port) (o : Offer) (s : List ℕ) → FittingRequest p s →
+    (stateOf (step (replaced p o) (packet s) .port) ≡ State.Judge) × (step (replaced p o) (packet s) .port .power .accepted ≡ asked (firstObject (partOf s)) (p .last))
+judged-by-the-last-offer p o s r = comes-to-ask (replaced p o) s (still-fits p o s r)
+
+-- ---- "Soft_Reset taken for a repeat."
+-- every listening state but Accepting, Moving and Telling, which are stricter
+abbrev pub answersSoftReset : State → Bool
+answersSoftReset s = listens s && not (same s State.Accepting || (same s State.Moving || same s State.Telling))
+
+to-answering : (s : State) → answersSoftReset s ≡ true → onPacket s Heard.SoftReset ≡ To Way.Answering
+unfolding onPacket
+to-answering State.Detached e = true-not-false (sym e)
+to-answering State.Offer e = refl
+to-answering State.Discovery e = refl
+to-answering State.Disabled e = true-not-false (sym e)
+to-answering State.Judge e = refl
+to-answering State.Accepting e = true-not-false (sym e)
+to-answering State.Moving e = true-not-false (sym e)
+to-answering State.Telling e = true-not-false (sym e)
+to-answering State.Ready e = refl
+to-answering State.Declining e = refl
+to-answering State.Refusing e = refl
+to-answering State.Waiting e = refl
+to-answering State.Soft e = refl
+to-answering State.Answering e = refl
+to-answering State.Hard e = true-not-false (sym e)
+to-answering State.Default e = true-not-false (sym e)
+
+never-a-repeat : (b : Bool) → (b && false) ≡ false
+never-a-repeat true = refl
+never-a-repeat false = refl
+
+-- THE CLAIM: whatever MessageID is stored, a Soft_Reset is answered with Accept from counter 0, and its MessageID stored
+pub soft-reset-is-no-repeat : (p : Port) (s : List ℕ) (n : ℕ) (f : Fields) → readOf s ≡ Reading.Message n f → meaningIn n f ≡ Meaning.SoftReset →
+    listens (stateOf p) ≡ true → answersSoftReset (stateOf p) ≡ true →
+    (stateOf (step p (packet s) .port) ≡ State.Answering)
+    × (step p (packet s) .actions .transmit ≡ controlOf Types.Accept 0)
+    × (step p (packet s) .port .channel .stored ≡ Stored.Id (f .«message_id»))
+unfolding step packetOf messageOf byMeaning otherPacket newPacket heardAs turn enter hears sends
+soft-reset-is-no-repeat p s n f e m l a =
+    rw (e, l, m, never-a-repeat (isRepeat (p .channel) (f .«message_id»)), to-answering (stateOf p) a) (refl, refl, refl)
+
+-- ---- "A retry surviving Hard Reset."
+-- THE CLAIM: a port that comes to Hard has nothing pending, counter 0 and nothing stored
+pub no-retry-survives : (p : Port) → Between p → (c : Call) → stateOf (step p c .port) ≡ State.Hard → step p c .port .channel ≡ fresh
+no-retry-survives p k c e = step-keeps p k c .reset (ap isReset e)
+
+abbrev isSilent : Way → Bool
+isSilent Way.Stay = true
+isSilent Way.Offered = true
+isSilent Way.Softened = true
+isSilent Way.Offer = false
+isSilent Way.Discovery = true
+isSilent Way.Disabled = true
+isSilent Way.Judge = true
+isSilent Way.Accepting = false
+isSilent Way.Moving = true
+isSilent Way.Telling = false
+isSilent Way.Ready = true
+isSilent Way.Declining = false
+isSilent Way.Refusing = false
+isSilent Way.Waiting = true
+isSilent Way.Soft = false
+isSilent Way.Answering = false
+isSilent Way.Hard = true
+isSilent Way.HardHeard = true
+isSilent Way.Default = true
+isSilent Way.Detached = true
+
+silent : (w : Way) (a : Asked) (p : Port) → isSilent w ≡ true → enter w a p .transmit ≡ noPacket
+unfolding enter
+silent Way.Stay a p e = refl
+silent Way.Offered a p e = refl
+silent Way.Softened a p e = refl
+silent Way.Offer a p e = true-not-false (sym e)
+silent Way.Discovery a p e = refl
+silent Way.Disabled a p e = refl
+silent Way.Judge a p e = refl
+silent Way.Accepting a p e = true-not-false (sym e)
+silent Way.Moving a p e = refl
+silent Way.Telling a p e = true-not-false (sym e)
+silent Way.Ready a p e = refl
+silent Way.Declining a p e = true-not-false (sym e)
+silent Way.Refusing a p e = true-not-false (sym e)
+silent Way.Waiting a p e = refl
+silent Way.Soft a p e = true-not-false (sym e)
+silent Way.Answering a p e = true-not-false (sym e)
+silent Way.Hard a p e = refl
+silent Way.HardHeard a p e = refl
+silent Way.Default a p e = refl
+silent Way.Detached a p e = refl
+
+abbrev hardTest : State → Lead → Bool
+hardTest s Refuse = true
+hardTest s (To way) = implies (same s State.Hard) (isSilent way)
+
+hard-is-silent : (s : State) (e : Stimulus) (f : Facts) → T (hardTest s (leads s e f))
+unfolding leads
+hard-is-silent = everywhere (λ s e f. hardTest s (leads s e f)) tt
+
+module _ (p : Port) (k : Between p) (hard : stateOf p ≡ State.Hard) where
+  by-shape : (c : Call) (a : Answer) → Shape p c a → a .actions .transmit ≡ noPacket
+  unfolding turn nothingDone resent
+  by-shape c a (refused d r) = refl
+  by-shape c a (idle d crc) = refl
+  by-shape c a (again d on few) = true-not-false (sym on ∙ ap isPending (k .reset (ap isReset hard)))
+  by-shape c a (led d e q t way rule l) =
+      silent way _ _ (then (same (stateOf p) State.Hard) (isSilent way) (at-way (hardTest (stateOf p)) (leads (stateOf p) e (factsOf p)) way l (hard-is-silent (stateOf p) e (factsOf p))) (is-same (stateOf p) State.Hard hard refl))
+  by-shape c a (heard s n f m way new l) = true-not-false (sym (new .listening) ∙ ap listens hard)
+
+  -- THE CLAIM: and while it is there, nothing is sent, whatever comes
+  pub silent-in-hard : (c : Call) → step p c .actions .transmit ≡ noPacket
+  silent-in-hard c = by-shape c (step p c) (shape p c)
+
+-- ---- "A failed send that leaves the counter as it was."
+-- THE CLAIM: an offer that no one acknowledges the third time is given up, and the next one goes out with the next MessageID
+pub a-failed-send-counts : (p : Port) → stateOf p ≡ State.Offer → p .connected ≡ false → pendingIn p ≡ true → ltb (p .channel .pending .retries) mostRetries ≡ false →
+    (stateOf (step p (event Event.Acknowledgement) .port) ≡ State.Discovery)
+    × (step p (event Event.Acknowledgement) .port .channel .counter ≡ nextId (p .channel .counter))
+    × (pendingIn (step p (event Event.Acknowledgement) .port) ≡ false)
+unfolding step eventOf onExpiry byOutcome failed happens leads changeOf turn enter ended
+a-failed-send-counts p s c on more = rw (on, more, s, c) (refl, refl, refl)
