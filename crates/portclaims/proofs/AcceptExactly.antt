@@ -174,8 +174,8 @@ module _ (p : Port) (elsewhere : same (stateOf p) State.Judge ≡ false) where
   by-shape : (c : Call) (a : Answer) → Shape p c a → stateOf (a .port) ≡ State.Judge → AskedBy p c
   unfolding nothingDone resent
   by-shape c a (refused d r) e = stays e
-  by-shape c a (idle d crc) e = stays e
-  by-shape c a (again d on few) e = stays e
+  by-shape c a (idle d u crc) e = stays e
+  by-shape c a (again d u on few) e = stays e
   by-shape c a (led d s q t way rule l) e =
       true-not-false
       (sym (is-same _ State.Judge (sym (led-state p d s q t rule noCrc t (changeOf (stateOf p) s) way nothingAsked) ∙ e) refl)
@@ -242,8 +242,8 @@ yes-call p c e q t by-yes h = refl
 yes-call p c e q t by-attach h = true-not-false (sym h)
 yes-call p c e q t by-detach h = true-not-false (sym h)
 yes-call p c e q t by-hard-reset h = true-not-false (sym h)
-yes-call p c e q t (by-acknowledgement d on) h = true-not-false (sym h)
-yes-call p c e q t (by-failure d on) h = true-not-false (sym h)
+yes-call p c e q t (by-acknowledgement d u on) h = true-not-false (sym h)
+yes-call p c e q t (by-failure d u on) h = true-not-false (sym h)
 yes-call p c e q t by-sender-response h = true-not-false (sym h)
 yes-call p c e q t by-source-capability h = true-not-false (sym h)
 yes-call p c e q t by-ps-hard-reset h = true-not-false (sym h)
@@ -258,8 +258,8 @@ module _ (p : Port) (elsewhere : same (stateOf p) State.Accepting ≡ false) whe
   was-yes : (c : Call) (a : Answer) → Shape p c a → stateOf (a .port) ≡ State.Accepting → (same (stateOf p) State.Judge ≡ true) × (c ≡ event Event.Yes)
   unfolding nothingDone resent
   was-yes c a (refused d r) e = remains e
-  was-yes c a (idle d crc) e = remains e
-  was-yes c a (again d on few) e = remains e
+  was-yes c a (idle d u crc) e = remains e
+  was-yes c a (again d u on few) e = remains e
   was-yes c a (led d s q t way rule l) e =
       let there = is-same (Ways.stateAfter (Tables.ruledState s (stateOf p)) way) State.Accepting (sym (led-state p d s q t rule noCrc t (changeOf (stateOf p) s) way nothingAsked) ∙ e) refl in
       let told =

@@ -278,8 +278,8 @@ module _ (p : Port) (k : Between p) where
   ruled c e q t by-attach = ruled-cleared Stimulus.Attach refl refl refl refl refl
   ruled c e q t by-detach = ruled-cleared Stimulus.Detach refl refl refl refl refl
   ruled c e q t by-hard-reset = as-it-was Stimulus.HardReset refl refl refl refl refl
-  ruled c e q t (by-acknowledgement d on) = ruled-ending Stimulus.Acknowledged on refl refl refl refl on
-  ruled c e q t (by-failure d on) = ruled-ending Stimulus.Failed on refl refl refl refl on
+  ruled c e q t (by-acknowledgement d u on) = ruled-ending Stimulus.Acknowledged on refl refl refl refl on
+  ruled c e q t (by-failure d u on) = ruled-ending Stimulus.Failed on refl refl refl refl on
   ruled c e q t by-sender-response = as-it-was Stimulus.SenderResponse refl refl refl refl refl
   ruled c e q t by-source-capability = as-it-was Stimulus.SourceCapability refl refl refl refl refl
   ruled c e q t by-ps-hard-reset = as-it-was Stimulus.PsHardReset refl refl refl refl refl
@@ -439,8 +439,8 @@ module _ (p : Port) (k : Between p) where
   kept : (c : Call) (a : Answer) → Shape p c a → Between (a .port)
   unfolding turn nothingDone resent again
   kept c a (refused d r) = k
-  kept c a (idle d crc) = k
-  kept c a (sent-again d on few) =
+  kept c a (idle d u crc) = k
+  kept c a (sent-again d u on few) =
       record { calmly = k .calmly; numbered = numbered-again (p .channel) (k .numbered); reset = λ x. true-not-false (sym on ∙ ap isPending (k .reset x)); known = k .known; shown = k .shown; holds = k .holds; counted = k .counted }
   kept c a (led d e q t way rule l) = led-on e q (ruled d e q t rule) way nothingAsked l
   kept c a (is-heard s n f m way new l) = heard-on (f .«message_id») (isSoftReset m) (heardAs m (f .«message_type») (fitIn p n s)) way (askedBy (fitIn p n s)) l

@@ -317,8 +317,8 @@ module _ (p : Port) (k : Between p) (on : pendingIn p ≡ true) where
   by-rule c e q t by-attach way l = from-zero p q (stateOf p) noCrc t (changeOf (stateOf p) Stimulus.Attach) way nothingAsked refl (starting c Stimulus.Attach q t by-attach way l refl) (isOver way) refl
   by-rule c e q t by-detach way l = from-zero p q (stateOf p) noCrc t (changeOf (stateOf p) Stimulus.Detach) way nothingAsked refl (starting c Stimulus.Detach q t by-detach way l refl) (isOver way) refl
   by-rule c e q t by-hard-reset way l = untouched p q (stateOf p) noCrc t (changeOf (stateOf p) Stimulus.HardReset) way nothingAsked refl (isOver way) refl (aside c Stimulus.HardReset q t by-hard-reset way l refl)
-  by-rule c e q t (by-acknowledgement d o) way l = counted p q (stateOf p) noCrc t (changeOf (stateOf p) Stimulus.Acknowledged) way nothingAsked refl (isOver way) refl
-  by-rule c e q t (by-failure d o) way l = counted p q (stateOf p) noCrc t (changeOf (stateOf p) Stimulus.Failed) way nothingAsked refl (isOver way) refl
+  by-rule c e q t (by-acknowledgement d u o) way l = counted p q (stateOf p) noCrc t (changeOf (stateOf p) Stimulus.Acknowledged) way nothingAsked refl (isOver way) refl
+  by-rule c e q t (by-failure d u o) way l = counted p q (stateOf p) noCrc t (changeOf (stateOf p) Stimulus.Failed) way nothingAsked refl (isOver way) refl
   by-rule c e q t by-sender-response way l = untouched p q (stateOf p) noCrc t (changeOf (stateOf p) Stimulus.SenderResponse) way nothingAsked refl (isOver way) refl (aside c Stimulus.SenderResponse q t by-sender-response way l refl)
   by-rule c e q t by-source-capability way l = untouched p q (stateOf p) noCrc t (changeOf (stateOf p) Stimulus.SourceCapability) way nothingAsked refl (isOver way) refl (aside c Stimulus.SourceCapability q t by-source-capability way l refl)
   by-rule c e q t by-ps-hard-reset way l = untouched p q (stateOf p) noCrc t (changeOf (stateOf p) Stimulus.PsHardReset) way nothingAsked refl (isOver way) refl (aside c Stimulus.PsHardReset q t by-ps-hard-reset way l refl)
@@ -346,8 +346,8 @@ module _ (p : Port) (k : Between p) (on : pendingIn p ≡ true) where
   by-shape : (c : Call) (a : Answer) → Shape p c a → Counts p (a .port)
   unfolding nothingDone resent once-again
   by-shape c a (refused d r) = still-pending refl refl
-  by-shape c a (idle d crc) = still-pending refl refl
-  by-shape c a (sent-again d o few) = still-pending refl refl
+  by-shape c a (idle d u crc) = still-pending refl refl
+  by-shape c a (sent-again d u o few) = still-pending refl refl
   by-shape c a (led d e q t way rule l) = by-rule d e q t rule way l
   by-shape c a (heard s n f m way new l) = by-packet f m (fitIn p n s) way l (isSoftReset m) refl
 

@@ -103,8 +103,8 @@ module _ (p : Port) (k : Between p) where
       so-same x = holds (same (stateOf p) State.Detached) x
   by-rule c e q t by-detach way l = refl
   by-rule c e q t by-hard-reset way l = refl
-  by-rule c e q t (by-acknowledgement d on) way l = refl
-  by-rule c e q t (by-failure d on) way l = refl
+  by-rule c e q t (by-acknowledgement d u on) way l = refl
+  by-rule c e q t (by-failure d u on) way l = refl
   by-rule c e q t by-sender-response way l = refl
   by-rule c e q t by-source-capability way l = refl
   by-rule c e q t by-ps-hard-reset way l = refl
@@ -116,8 +116,8 @@ module _ (p : Port) (k : Between p) where
   by-shape : (c : Call) (a : Answer) → Shape p c a → a .port .power .held ≡ heldAfter (a .held) (p .power .held) (p .power .accepted .worth)
   unfolding turn nothingDone resent
   by-shape c a (refused d r) = refl
-  by-shape c a (idle d crc) = refl
-  by-shape c a (again d on few) = refl
+  by-shape c a (idle d u crc) = refl
+  by-shape c a (again d u on few) = refl
   by-shape c a (led d e q t way rule l) = turn-holds q (stateOf p) noCrc t (changeOf (stateOf p) e) way nothingAsked ∙ by-rule d e q t rule way l
   by-shape c a (heard s n f m way new l) = turn-holds (hearing p (f .«message_id») (isSoftReset m)) (stateOf p) (crcFor f) (runningIn p) Change.Nothing way (askedBy (fitIn p n s))
 

@@ -31,8 +31,8 @@ rule-state : (p : Port) (c : Call) (e : Stimulus) (q : Port) (t : Timer) → Rul
 rule-state p c e q t by-attach = refl
 rule-state p c e q t by-detach = refl
 rule-state p c e q t by-hard-reset = refl
-rule-state p c e q t (by-acknowledgement d on) = refl
-rule-state p c e q t (by-failure d on) = refl
+rule-state p c e q t (by-acknowledgement d u on) = refl
+rule-state p c e q t (by-failure d u on) = refl
 rule-state p c e q t by-sender-response = refl
 rule-state p c e q t by-source-capability = refl
 rule-state p c e q t by-ps-hard-reset = refl

@@ -12,3 +12,4 @@ pub mod Transmissions
 pub mod CountsOneOn
 pub mod HeldByChange
 pub mod SlipsOfTheOldFirmware
+pub mod TimerByActions

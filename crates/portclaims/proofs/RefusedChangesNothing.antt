@@ -20,8 +20,8 @@ by-shape p c a r (refused d s) e = ap (λ (t : Refusal). refusedBy t p) (the-ref
   where
     the-refusal : (s t : Refusal) → Refused s ≡ Refused t → s ≡ t
     the-refusal s t e = cc
-by-shape p c a r (idle d crc) e = other (nothingDone crc p) r p refl e
-by-shape p c a r (again d pending more) e = other (resent p) r p refl e
+by-shape p c a r (idle d u crc) e = other (nothingDone crc p) r p refl e
+by-shape p c a r (again d u pending more) e = other (resent p) r p refl e
 by-shape p c a r (led d s after runs way rule l) e = other _ r p refl e
 by-shape p c a r (heard s n f m way new l) e = other _ r p refl e
 

@@ -40,13 +40,31 @@ use Rattle.port.specs.Steps.{turn, ledTo, happens, ending, acknowledged, failed
 use Rattle.port.specs.Packets.{heardAs, askedBy, isSoftReset, crcFor, hearing, ledBy, newPacket, otherPacket, goodCrcHeard, byMeaning, messageOf, meaningIn, firstObject, packetOf, readTo}
 use Rattle.port.specs.Calls.{Call, event, packet, newOffer, step}
 
+-- whether a call is the expiry of a timer that is started and stopped
+abbrev expires : Event → Bool
+expires Event.Attach = false
+expires Event.Detach = false
+expires Event.HardReset = false
+expires Event.Acknowledgement = false
+expires Event.SenderResponse = true
+expires Event.SourceCapability = true
+expires Event.PsHardReset = true
+expires Event.SupplyReady = false
+expires Event.Yes = false
+expires Event.No = false
+
+abbrev pub isExpiry : Call → Bool
+isExpiry (event e) = expires e
+isExpiry (packet s) = false
+isExpiry (newOffer limit o) = false
+
 -- the port after the protocol rules, and the timer that still runs, when a call brings a stimulus
 pub data Rule (p : Port) : Call → Stimulus → Port → Timer → Type 0 where
   by-attach : Rule p (event Event.Attach) Stimulus.Attach (cleared p) (runningIn p)
   by-detach : Rule p (event Event.Detach) Stimulus.Detach (cleared p) (runningIn p)
   by-hard-reset : Rule p (event Event.HardReset) Stimulus.HardReset p (runningIn p)
-  by-acknowledgement : (c : Call) → pendingIn p ≡ true → Rule p c Stimulus.Acknowledged (ending p) (runningIn p)
-  by-failure : (c : Call) → pendingIn p ≡ true → Rule p c Stimulus.Failed (ending p) (runningIn p)
+  by-acknowledgement : (c : Call) → isExpiry c ≡ false → pendingIn p ≡ true → Rule p c Stimulus.Acknowledged (ending p) (runningIn p)
+  by-failure : (c : Call) → isExpiry c ≡ false → pendingIn p ≡ true → Rule p c Stimulus.Failed (ending p) (runningIn p)
   by-sender-response : Rule p (event Event.SenderResponse) Stimulus.SenderResponse p NoTimer
   by-source-capability : Rule p (event Event.SourceCapability) Stimulus.SourceCapability p NoTimer
   by-ps-hard-reset : Rule p (event Event.PsHardReset) Stimulus.PsHardReset p NoTimer
@@ -68,8 +86,8 @@ fitIn p n s = fitOf n (firstObject (partOf s)) (p .last)
 
 pub data Shape (p : Port) : Call → Answer → Type 0 where
   refused : (c : Call) (r : Refusal) → Shape p c (refusedBy r p)
-  idle : (c : Call) (crc : GoodCrc) → Shape p c (nothingDone crc p)
-  again : (c : Call) → pendingIn p ≡ true → ltb (p .channel .pending .retries) mostRetries ≡ true → Shape p c (resent p)
+  idle : (c : Call) → isExpiry c ≡ false → (crc : GoodCrc) → Shape p c (nothingDone crc p)
+  again : (c : Call) → isExpiry c ≡ false → pendingIn p ≡ true → ltb (p .channel .pending .retries) mostRetries ≡ true → Shape p c (resent p)
   led : (c : Call) (e : Stimulus) (after : Port) (runs : Timer) (way : Way) → Rule p c e after runs → leads (stateOf p) e (factsOf p) ≡ To way →
       Shape p c (turn after (stateOf p) noCrc runs (changeOf (stateOf p) e) way nothingAsked)
   heard : (s : List ℕ) (n : ℕ) (f : Fields) (m : Meaning) (way : Way) → New p s n f m → onPacket (stateOf p) (heardAs m (f .«message_type») (fitIn p n s)) ≡ To way →
@@ -97,12 +115,12 @@ module _ (p : Port) where
   told true false true e r = (e, r)
   told true false false e r = e
 
-  outcome : (c : Call) (o : Outcome) (a : Answer) → Told o → Shape p c a → Shape p c (byOutcome o a p)
+  outcome : (c : Call) → isExpiry c ≡ false → (o : Outcome) (a : Answer) → Told o → Shape p c a → Shape p c (byOutcome o a p)
   unfolding byOutcome acknowledged failed
-  outcome c NonePending a t s = s
-  outcome c Acknowledged a t s = happening c Stimulus.Acknowledged (ending p) (runningIn p) (by-acknowledgement c t)
-  outcome c Again a t s = again c (t .0) (t .1)
-  outcome c Failed a t s = happening c Stimulus.Failed (ending p) (runningIn p) (by-failure c t)
+  outcome c u NonePending a t s = s
+  outcome c u Acknowledged a t s = happening c Stimulus.Acknowledged (ending p) (runningIn p) (by-acknowledgement c u t)
+  outcome c u Again a t s = again c u (t .0) (t .1)
+  outcome c u Failed a t s = happening c Stimulus.Failed (ending p) (runningIn p) (by-failure c u t)
 
   on-event : (e : Event) → Shape p (event e) (eventOf p e)
   unfolding eventOf onExpiry
@@ -110,7 +128,7 @@ module _ (p : Port) where
   on-event Event.Detach = happening (event Event.Detach) Stimulus.Detach (cleared p) (runningIn p) by-detach
   on-event Event.HardReset = happening (event Event.HardReset) Stimulus.HardReset p (runningIn p) by-hard-reset
   on-event Event.Acknowledgement =
-      outcome (event Event.Acknowledgement) (onExpiry (p .channel)) (refusedBy NotAwaited p)
+      outcome (event Event.Acknowledgement) refl (onExpiry (p .channel)) (refusedBy NotAwaited p)
       (told (pendingIn p) false (ltb (p .channel .pending .retries) mostRetries) refl refl)
       (refused (event Event.Acknowledgement) NotAwaited)
   on-event Event.SenderResponse = happening (event Event.SenderResponse) Stimulus.SenderResponse p NoTimer by-sender-response
@@ -136,7 +154,7 @@ module _ (p : Port) where
     on-other-by : (m : Meaning) → meaningIn n f ≡ m → (b : Bool) → (isRepeat (p .channel) (f .«message_id») && not (isSoftReset m)) ≡ b →
         Shape p (packet s) (cond b (nothingDone (crcFor f) p) (newPacket p f m fit))
     unfolding newPacket
-    on-other-by m g true b-is = idle (packet s) (crcFor f)
+    on-other-by m g true b-is = idle (packet s) refl (crcFor f)
     on-other-by m g false b-is =
         led-by m (record { read = e; listening = l; meaning = g; fresh = b-is }) (onPacket (stateOf p) (heardAs m (f .«message_type») fit)) refl
 
@@ -147,9 +165,9 @@ module _ (p : Port) where
     on-good-crc : Shape p (packet s) (goodCrcHeard p f)
     unfolding goodCrcHeard onGoodCrc
     on-good-crc =
-        outcome (packet s) (onGoodCrc (p .channel) (f .«message_id»)) (nothingDone noCrc p)
+        outcome (packet s) refl (onGoodCrc (p .channel) (f .«message_id»)) (nothingDone noCrc p)
         (told (pendingIn p) (eqb (pendingId (p .channel)) (f .«message_id»)) (ltb (p .channel .pending .retries) mostRetries) refl refl)
-        (idle (packet s) noCrc)
+        (idle (packet s) refl noCrc)
 
     on-meaning : (m : Meaning) → meaningIn n f ≡ m → Shape p (packet s) (byMeaning m p f fit)
     unfolding byMeaning

@@ -180,8 +180,8 @@ module _ (p : Port) (k : Between p) (hard : stateOf p ≡ State.Hard) where
   by-shape : (c : Call) (a : Answer) → Shape p c a → a .actions .transmit ≡ noPacket
   unfolding turn nothingDone resent
   by-shape c a (refused d r) = refl
-  by-shape c a (idle d crc) = refl
-  by-shape c a (again d on few) = true-not-false (sym on ∙ ap isPending (k .reset (ap isReset hard)))
+  by-shape c a (idle d u crc) = refl
+  by-shape c a (again d u on few) = true-not-false (sym on ∙ ap isPending (k .reset (ap isReset hard)))
   by-shape c a (led d e q t way rule l) =
       silent way _ _ (then (same (stateOf p) State.Hard) (isSilent way) (at-way (hardTest (stateOf p)) (leads (stateOf p) e (factsOf p)) way l (hard-is-silent (stateOf p) e (factsOf p))) (is-same (stateOf p) State.Hard hard refl))
   by-shape c a (heard s n f m way new l) = true-not-false (sym (new .listening) ∙ ap listens hard)

@@ -91,8 +91,8 @@ module _ (p : Port) where
   after-rule c e q t by-attach = inr refl
   after-rule c e q t by-detach = inr refl
   after-rule c e q t by-hard-reset = inl refl
-  after-rule c e q t (by-acknowledgement d on) = inr refl
-  after-rule c e q t (by-failure d on) = inr refl
+  after-rule c e q t (by-acknowledgement d u on) = inr refl
+  after-rule c e q t (by-failure d u on) = inr refl
   after-rule c e q t by-sender-response = inl refl
   after-rule c e q t by-source-capability = inl refl
   after-rule c e q t by-ps-hard-reset = inl refl
@@ -108,8 +108,8 @@ module _ (p : Port) where
   transmitted : (c : Call) (a : Answer) → Shape p c a → Transmits p a
   unfolding nothingDone resent once-again
   transmitted c a (refused d r) = nothing refl
-  transmitted c a (idle d crc) = nothing refl
-  transmitted c a (sent-again d on few) =
+  transmitted c a (idle d u crc) = nothing refl
+  transmitted c a (sent-again d u on few) =
       again
       (record {
         was-pending = on;
@@ -123,8 +123,8 @@ module _ (p : Port) where
   fated : (c : Call) (a : Answer) → Shape p c a → Fate p a
   unfolding nothingDone resent once-again
   fated c a (refused d r) = kept refl refl
-  fated c a (idle d crc) = kept refl refl
-  fated c a (sent-again d on few) = kept refl refl
+  fated c a (idle d u crc) = kept refl refl
+  fated c a (sent-again d u on few) = kept refl refl
   fated c a (led d e q t way rule l) = turn-fate q _ _ _ (changeOf (stateOf p) e) way nothingAsked p (after-rule d e q t rule) (passed way nothingAsked (withChange (changeOf (stateOf p) e) q))
   fated c a (heard s n f m way new l) =
       turn-fate (hearing p (f .«message_id») (isSoftReset m)) _ _ _ Change.Nothing way _ p (inr (none-once-heard (f .«message_id») (isSoftReset m)))
