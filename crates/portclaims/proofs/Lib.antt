@@ -13,3 +13,4 @@ pub mod CountsOneOn
 pub mod HeldByChange
 pub mod SlipsOfTheOldFirmware
 pub mod TimerByActions
+pub mod NeverSleeps
