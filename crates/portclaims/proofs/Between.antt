@@ -39,6 +39,7 @@ use Rattle.portclaims.proofs.Truth.{below, so, holds, true-not-false, t
 use Rattle.portclaims.proofs.Ways as Ways
 use Rattle.portclaims.proofs.Channels.{numbered-fresh, numbered-ended, numbered-again, numbered-heard, numbered-enters}
 use Rattle.portclaims.proofs.Tables as Tables
+use Rattle.portclaims.proofs.Led.{change-state, change-channel}
 use Rattle.portclaims.proofs.Shapes.{Rule, by-attach, by-detach, by-hard-reset, by-acknowledgement, by-failure, by-sender-response, by-source-capability, by-ps-hard-reset, by-supply-ready, by-yes, by-no, by-offer, New, fitIn, Shape, refused, idle, again as sent-again, led, heard as is-heard, shape}
 
 -- ---- the parts of what is relied on that a way keeps or makes
@@ -155,18 +156,6 @@ reset-enters Way.Detached a p k d h = d refl
 
 -- ---- what a change does
 module _ (p : Port) where
-  change-state : (c : Change) → stateOf (withChange c p) ≡ stateOf p
-  change-state Change.Nothing = refl
-  change-state Change.Accepted = refl
-  change-state Change.InForce = refl
-  change-state Change.GivenUp = refl
-
-  change-channel : (c : Change) → withChange c p .channel ≡ p .channel
-  change-channel Change.Nothing = refl
-  change-channel Change.Accepted = refl
-  change-channel Change.InForce = refl
-  change-channel Change.GivenUp = refl
-
   change-gone-out : (c : Change) → withChange c p .«gone_out» ≡ p .«gone_out»
   change-gone-out Change.Nothing = refl
   change-gone-out Change.Accepted = refl

@@ -38,7 +38,7 @@ use Rattle.portclaims.specs.Between.{implies, pends, Between}
 use Rattle.portclaims.proofs.Truth.{so, true-not-false, then, and, first, second}
 use Rattle.portclaims.proofs.Ways as Ways
 use Rattle.portclaims.proofs.Tables as Tables
-use Rattle.portclaims.proofs.Led.{turn-state, led-state, at-way}
+use Rattle.portclaims.proofs.Led.{change-channel, turn-state, led-state, at-way}
 use Rattle.portclaims.proofs.Shapes.{Rule, by-attach, by-detach, by-hard-reset, by-acknowledgement, by-failure, by-sender-response, by-source-capability, by-ps-hard-reset, by-supply-ready, by-yes, by-no, by-offer, fitIn, Shape, refused, idle, again as sent-again, led, heard, shape}
 
 abbrev pub startsOver : State → Bool
@@ -187,12 +187,6 @@ over-there s Way.HardHeard e = refl
 over-there s Way.Default e = true-not-false (sym e)
 over-there s Way.Detached e = true-not-false (sym e)
 
-change-channel : (c : Change) (p : Port) → withChange c p .channel ≡ p .channel
-change-channel Change.Nothing p = refl
-change-channel Change.Accepted p = refl
-change-channel Change.InForce p = refl
-change-channel Change.GivenUp p = refl
-
 -- ---- a turn of a port whose counter has gone one on
 module _ (p q : Port) (s : State) (crc : GoodCrc) (t : Timer) (c : Change) (w : Way) (a : Asked) where
   abbrev end : Port
@@ -204,7 +198,7 @@ module _ (p q : Port) (s : State) (crc : GoodCrc) (t : Timer) (c : Change) (w : 
 
   same-counter : isOver w ≡ false → end .channel .counter ≡ q .channel .counter
   unfolding turn
-  same-counter e = as-it-was a (withChange c q) w e ∙ ap (λ (x : Channel). x .counter) (change-channel c q)
+  same-counter e = as-it-was a (withChange c q) w e ∙ ap (λ (x : Channel). x .counter) (change-channel q c)
 
   in-over : isOver w ≡ true → startsOver (stateOf end) ≡ true
   in-over e = rw (turn-state q s crc t c w a) (over-there (stateOf q) w e)
@@ -223,7 +217,7 @@ module _ (p q : Port) (s : State) (crc : GoodCrc) (t : Timer) (c : Change) (w : 
   unfolding turn
   untouched n true e k = over (zeroed e) (in-over e)
   untouched n false e k =
-      let whole = left-alone a (withChange c q) w (subst (λ (b : Bool). (b || isAside w) ≡ true) e k) ∙ change-channel c q ∙ n in
+      let whole = left-alone a (withChange c q) w (subst (λ (b : Bool). (b || isAside w) ≡ true) e k) ∙ change-channel q c ∙ n in
       still-pending (ap (λ (x : Channel). x .pending .packet) whole) (ap (λ (x : Channel). x .counter) whole)
 
 -- ---- while a message is pending

@@ -13,7 +13,7 @@ use Rattle.source.specs.declared.Way.{Way}
 use Rattle.source.specs.States.{same}
 use Rattle.port.specs.declared.GoodCrc.{GoodCrc}
 use Rattle.port.specs.declared.Port.{Port}
-use Rattle.port.specs.Memory.{stateOf}
+use Rattle.port.specs.Memory.{stateOf, pendingIn}
 use Rattle.port.specs.Entering.{enter}
 use Rattle.port.specs.Steps.{withChange, turn}
 use Rattle.port.specs.Calls.{Call}
@@ -26,6 +26,12 @@ change-state p Change.Nothing = refl
 change-state p Change.Accepted = refl
 change-state p Change.InForce = refl
 change-state p Change.GivenUp = refl
+
+pub change-channel : (p : Port) (c : Change) → withChange c p .channel ≡ p .channel
+change-channel p Change.Nothing = refl
+change-channel p Change.Accepted = refl
+change-channel p Change.InForce = refl
+change-channel p Change.GivenUp = refl
 
 rule-state : (p : Port) (c : Call) (e : Stimulus) (q : Port) (t : Timer) → Rule p c e q t → stateOf q ≡ Tables.ruledState e (stateOf p)
 rule-state p c e q t by-attach = refl
@@ -44,6 +50,10 @@ rule-state p c e q t (by-offer limit o good) = refl
 pub turn-state : (q : Port) (s : State) (crc : GoodCrc) (t : Timer) (c : Change) (w : Way) (a : Asked) → stateOf (turn q s crc t c w a .port) ≡ Ways.stateAfter (stateOf q) w
 unfolding turn
 turn-state q s crc t c w a = Ways.enters a (withChange c q) w ∙ rw (change-state q c)
+
+pub turn-pending : (q : Port) (s : State) (crc : GoodCrc) (t : Timer) (c : Change) (w : Way) (a : Asked) → pendingIn (turn q s crc t c w a .port) ≡ Ways.pendingAfter (pendingIn q) w
+unfolding turn
+turn-pending q s crc t c w a = Ways.pending a (withChange c q) w ∙ rw (change-channel q c)
 
 pub led-state : (p : Port) (c : Call) (e : Stimulus) (q : Port) (t : Timer) → Rule p c e q t → (crc : GoodCrc) (u : Timer) (d : Change) (w : Way) (a : Asked) →
     stateOf (turn q (stateOf p) crc u d w a .port) ≡ Ways.stateAfter (Tables.ruledState e (stateOf p)) w

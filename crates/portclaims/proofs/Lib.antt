@@ -14,3 +14,4 @@ pub mod HeldByChange
 pub mod SlipsOfTheOldFirmware
 pub mod TimerByActions
 pub mod NeverSleeps
+pub mod OfferCount

@@ -36,7 +36,7 @@ use Rattle.portclaims.specs.Between.{implies, pends, Between}
 use Rattle.portclaims.proofs.Truth.{true-not-false, then, and, first}
 use Rattle.portclaims.proofs.Ways as Ways
 use Rattle.portclaims.proofs.Tables as Tables
-use Rattle.portclaims.proofs.Led.{turn-state, led-state, at-way}
+use Rattle.portclaims.proofs.Led.{turn-state, turn-pending, led-state, at-way}
 use Rattle.portclaims.proofs.Shapes.{Rule, by-attach, by-detach, by-hard-reset, by-acknowledgement, by-failure, by-sender-response, by-source-capability, by-ps-hard-reset, by-supply-ready, by-yes, by-no, by-offer, fitIn, isExpiry, Shape, refused, idle, again as sent-again, led, heard, shape}
 
 -- ---- the timer by what was done: one that expired or was stopped no longer runs, one that was started does
@@ -171,16 +171,6 @@ packet-table : (s : State) (h : Heard) (pending : Bool) → T (packetTest s pend
 unfolding onPacket
 packet-table s h true = at-packets (λ s h. packetTest s true (onPacket s h)) tt s h
 packet-table s h false = at-packets (λ s h. packetTest s false (onPacket s h)) tt s h
-
-change-channel : (c : Change) (p : Port) → withChange c p .channel ≡ p .channel
-change-channel Change.Nothing p = refl
-change-channel Change.Accepted p = refl
-change-channel Change.InForce p = refl
-change-channel Change.GivenUp p = refl
-
-turn-pending : (q : Port) (s : State) (crc : GoodCrc) (t : Timer) (c : Change) (w : Way) (a : Asked) → pendingIn (turn q s crc t c w a .port) ≡ Ways.pendingAfter (pendingIn q) w
-unfolding turn
-turn-pending q s crc t c w a = Ways.pending a (withChange c q) w ∙ rw (change-channel c q)
 
 turn-start : (q : Port) (s : State) (crc : GoodCrc) (t : Timer) (c : Change) (w : Way) (a : Asked) → turn q s crc t c w a .actions .start ≡ startOf w
 unfolding turn

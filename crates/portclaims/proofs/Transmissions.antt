@@ -30,6 +30,7 @@ use Rattle.port.specs.Packets.{hearing, isSoftReset}
 use Rattle.port.specs.Calls.{Call, step, run}
 use Rattle.portclaims.specs.Messages.{control, offer, First, SentAgain, Transmits, nothing, first, again, Fate, kept, made, gone, Kept, to-the-end, through, Made, at-once, later}
 use Rattle.portclaims.proofs.Truth.{true-not-false, below}
+use Rattle.portclaims.proofs.Led.{change-channel}
 use Rattle.portclaims.proofs.Shapes.{Rule, by-attach, by-detach, by-hard-reset, by-acknowledgement, by-failure, by-sender-response, by-source-capability, by-ps-hard-reset, by-supply-ready, by-yes, by-no, by-offer, Shape, refused, idle, again as sent-again, led, heard, shape}
 
 -- ---- what a way does to the pending message: it is kept, or one is made, or none is left
@@ -61,12 +62,6 @@ passed Way.HardHeard a p = clears refl refl
 passed Way.Default a p = keeps refl refl
 passed Way.Detached a p = keeps refl refl
 
-change-channel : (c : Change) (p : Port) → withChange c p .channel ≡ p .channel
-change-channel Change.Nothing p = refl
-change-channel Change.Accepted p = refl
-change-channel Change.InForce p = refl
-change-channel Change.GivenUp p = refl
-
 -- ---- a step
 module _ (q : Port) (s : State) (crc : GoodCrc) (t : Timer) (c : Change) (w : Way) (a : Asked) where
   turn-transmits : (p : Port) → Passed (withChange c q) (enter w a (withChange c q)) → Transmits p (turn q s crc t c w a)
@@ -79,9 +74,9 @@ module _ (q : Port) (s : State) (crc : GoodCrc) (t : Timer) (c : Change) (w : Wa
   turn-fate : (p : Port) → (q .channel ≡ p .channel) ⊎ (pendingIn q ≡ false) → Passed (withChange c q) (enter w a (withChange c q)) → Fate p (turn q s crc t c w a)
   unfolding turn
   turn-fate p (inl e) (keeps n h) =
-      let same = h ∙ change-channel c q ∙ e in
+      let same = h ∙ change-channel q c ∙ e in
       kept (ap (λ (x : Channel). x .pending .packet) same) (ap (λ (x : Channel). x .counter) same)
-  turn-fate p (inr e) (keeps n h) = gone (ap isPending (h ∙ change-channel c q) ∙ e)
+  turn-fate p (inr e) (keeps n h) = gone (ap isPending (h ∙ change-channel q c) ∙ e)
   turn-fate p g (makes f) = made f
   turn-fate p g (clears n h) = gone (ap isPending h)
 

@@ -93,7 +93,7 @@ madeAfter b Change.InForce = true
 madeAfter b Change.GivenUp = false
 
 -- a Source_Capabilities has bytes, whatever the offer
-some : (count : ℕ) → ltb 0 (2 + 4 * (count % 8)) ≡ true
+pub some : (count : ℕ) → ltb 0 (2 + 4 * (count % 8)) ≡ true
 some count = lt-ltb 0 (2 + 4 * (count % 8)) (omega arith)
 
 module _ (a : Asked) (p : Port) where

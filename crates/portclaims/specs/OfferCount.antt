@@ -1,0 +1,38 @@
+-- The offers since the count was last cleared, reckoned from the answers alone: what was put on the wire, what was acknowledged, what was given up.
+use Prim.Native.Nat.{ℕ, _+_}
+use mathlib.Core.Bool.{Bool, true, false, not, cond, _&&_, _||_}
+use mathlib.Core.List.{List, [], _∷_}
+use lib.Dec.{ltb, eqb}
+use Rattle.power.specs.declared.Change.{Change}
+use Rattle.source.specs.declared.State.{State}
+use Rattle.source.specs.States.{same}
+use Rattle.port.specs.declared.Port.{Port}
+use Rattle.port.specs.declared.Answer.{Answer}
+use Rattle.port.specs.Memory.{stateOf, pendingIn}
+use Rattle.port.specs.Calls.{Call, step}
+
+-- an offer is put on the wire: a message goes out in Offer, and not again
+abbrev pub offerMade : Answer → Bool
+offerMade a = (ltb 0 (a .actions .transmit .length) && eqb (a .port .channel .pending .retries) 0) && same (stateOf (a .port)) State.Offer
+
+abbrev pub isGivenUp : Change → Bool
+isGivenUp Change.Nothing = false
+isGivenUp Change.Accepted = false
+isGivenUp Change.InForce = false
+isGivenUp Change.GivenUp = true
+
+-- the count is cleared: the offer is acknowledged; or all is given up (Default ready, detach); or the port is attached
+abbrev pub countCleared : Port → Answer → Bool
+countCleared p a =
+    ((same (stateOf p) State.Offer && pendingIn p) && (same (stateOf (a .port)) State.Offer && not (pendingIn (a .port))))
+    || (isGivenUp (a .held)
+    || (same (stateOf p) State.Detached && not (same (stateOf (a .port)) State.Detached)))
+
+-- so many offers, and one step more
+abbrev pub offersAfter : ℕ → Port → Answer → ℕ
+offersAfter n p a = cond (countCleared p a) 0 n + cond (offerMade a) 1 0
+
+-- the offers since the count was last cleared, after a port with n of them has been through some calls
+abbrev pub offersSince : ℕ → Port → List Call → ℕ
+offersSince n p [] = n
+offersSince n p (c ∷ cs) = offersSince (offersAfter n p (step p c)) (step p c .port) cs
