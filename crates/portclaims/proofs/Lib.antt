@@ -15,3 +15,5 @@ pub mod SlipsOfTheOldFirmware
 pub mod TimerByActions
 pub mod NeverSleeps
 pub mod OfferCount
+pub mod NothingLoose
+pub mod Witnesses
