@@ -1,7 +1,7 @@
 -- "Refusal numbers": an offer is good with 1 to 7 fixed objects, the first at 5,000 mV, voltages strictly rising, none over 20,000 mV,
 -- current at most 5,000 mA, each object worth at most the port's limit.
 use Prim.Native.Nat.{ℕ, _*_}
-use mathlib.Core.Bool.{Bool, true, false, _&&_}
+use mathlib.Core.Bool.{Bool, true, _&&_}
 use mathlib.Core.List.{List, [], _∷_}
 use lib.Dec.{ltb, leb, eqb}
 use lib.ListN.{take, getD}

@@ -3,11 +3,10 @@
 use Prim.Native.Nat.{ℕ, zero, suc, _+_, _*_, _/_, _%_, _<_, _≤_}
 use native.Mathlib.Nat.{le-of-suc-le-suc, not-suc-le-zero, mod-eq-of-lt}
 use native.Mathlib.Omega.{arith}
-use mathlib.Core.Path.{_≡_, refl, sym, ap, _∙_}
+use mathlib.Core.Path.{_≡_, refl, ap, _∙_}
 use mathlib.Core.List.{List, [], _∷_, _++_}
 use lib.ListN.{length, take}
 use lib.Seq.{length-take-le}
-use Rattle.message.specs.declared.Fields.{Fields}
 use Rattle.message.specs.Header.{fieldsOf, headerOf, Fits}
 use Rattle.message.specs.Bytes.{bytesOf, twoBytes, wordOf}
 use Rattle.message.proofs.RoundTrip.{unpack-pack}

@@ -1,11 +1,11 @@
 -- "The port's memory and its actions": the memory at attach, what the states ask of it, and an answer without actions.
 use Prim.Native.Nat.{ℕ}
-use mathlib.Core.Bool.{Bool, true, false}
+use mathlib.Core.Bool.{Bool, false}
 use mathlib.Core.List.{[], _∷_}
 use lib.Dec.{leb}
 use lib.ListN.{replicate}
 use Rattle.ground.specs.declared.Refusal.{Refusal}
-use Rattle.ground.specs.declared.Verdict.the-variants.{Fine, Refused}
+use Rattle.ground.specs.declared.Verdict.the-variants.{Refused}
 use Rattle.offers.specs.declared.Offer.{Offer}
 use Rattle.outgoing.specs.Packets.{noPacket}
 use Rattle.channel.specs.Channel.{isPending, fresh}
@@ -16,7 +16,6 @@ use Rattle.source.specs.declared.Timer.{Timer}
 use Rattle.source.specs.declared.Timer.the-variants.{NoTimer}
 use Rattle.source.specs.declared.Facts.{Facts}
 use Rattle.source.specs.States.{running}
-use Rattle.port.specs.declared.Supply.{Supply}
 use Rattle.port.specs.declared.Supply.the-variants.{Unchanged}
 use Rattle.port.specs.declared.GoodCrc.{GoodCrc}
 use Rattle.port.specs.declared.Actions.{Actions}

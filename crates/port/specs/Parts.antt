@@ -5,7 +5,6 @@ use Rattle.offers.specs.declared.Offer.{Offer}
 use Rattle.channel.specs.declared.Channel.{Channel}
 use Rattle.power.specs.declared.Power.{Power}
 use Rattle.source.specs.declared.State.{State}
-use Rattle.port.specs.declared.Phase.{Phase}
 use Rattle.port.specs.declared.Port.{Port}
 
 -- in another state

@@ -2,21 +2,20 @@
 -- a port comes to ask the power rule, and exactly at its yes the port accepts. A port that rejects everything and one that accepts everything are shut out.
 -- Assumes nothing.
 use Prim.Native.Nat.{ℕ, max}
-use mathlib.Core.Path.{_≡_, refl, sym, ap, subst, _∙_}
+use mathlib.Core.Path.{_≡_, refl, sym, subst, _∙_}
 use mathlib.Core.Bool.{Bool, true, false, not, cond, _&&_, _||_}
 use mathlib.Core.List.{List}
 use lib.Dec.{T, eqb}
 use Rattle.message.specs.declared.Fields.{Fields}
 use Rattle.message.specs.Types as Types
 use Rattle.meaning.specs.declared.Meaning.{Meaning}
-use Rattle.reading.specs.Reading.{readOf, partOf}
+use Rattle.reading.specs.Reading.{partOf}
 use Rattle.offers.specs.declared.Asked.{Asked}
 use Rattle.offers.specs.declared.Offer.{Offer}
 use Rattle.offers.specs.declared.Fit.{Fit}
-use Rattle.offers.specs.declared.Fit.the-variants.{Unfit, Fits}
+use Rattle.offers.specs.declared.Fit.the-variants.{Fits}
 use Rattle.offers.specs.Requests.{fits, asked, judged, fitOf}
 use Rattle.outgoing.specs.Packets.{controlOf}
-use Rattle.channel.specs.Channel.{sends}
 use Rattle.power.specs.declared.Change.{Change}
 use Rattle.power.specs.Power.{nothingAsked, changed}
 use Rattle.source.specs.declared.State.{State}

@@ -8,7 +8,6 @@ use mathlib.Core.List.{List, [], _∷_}
 use lib.Dec.{T, ltb}
 use Rattle.offers.specs.declared.Asked.{Asked}
 use Rattle.offers.specs.declared.Offer.{Offer}
-use Rattle.outgoing.specs.Packets.{controlOf, dataOf}
 use Rattle.channel.specs.declared.Stored.{Stored}
 use Rattle.channel.specs.declared.Channel.{Channel}
 use Rattle.channel.specs.Channel.{isPending, fresh, ended, again, heard, sends}
@@ -21,7 +20,7 @@ use Rattle.source.specs.declared.Stimulus.{Stimulus}
 use Rattle.source.specs.declared.Timer.{Timer}
 use Rattle.source.specs.declared.Heard.{Heard}
 use Rattle.source.specs.declared.Lead.{Lead}
-use Rattle.source.specs.declared.Lead.the-variants.{Refuse, To}
+use Rattle.source.specs.declared.Lead.the-variants.{To}
 use Rattle.source.specs.declared.Way.{Way}
 use Rattle.source.specs.States.{same}
 use Rattle.source.specs.Leads.{leads}
@@ -30,8 +29,8 @@ use Rattle.source.specs.Changes.{changeOf}
 use Rattle.port.specs.declared.Port.{Port}
 use Rattle.port.specs.declared.Answer.{Answer}
 use Rattle.port.specs.Memory.{stateOf, detachedPort, cleared, pendingIn, factsOf, mostOffers}
-use Rattle.port.specs.Entering.{enter, oneOffer}
-use Rattle.port.specs.Steps.{withChange, turn, ending, resent, nothingDone, replaced}
+use Rattle.port.specs.Entering.{enter}
+use Rattle.port.specs.Steps.{withChange, turn, ending, resent, nothingDone}
 use Rattle.port.specs.Packets.{heardAs, askedBy, isSoftReset, hearing}
 use Rattle.port.specs.Calls.{Call, step, run}
 use Rattle.portclaims.specs.Between.{implies, pends, calm, isMade, inBetween, worthIn, isReset, Numbered, Between}
@@ -40,7 +39,7 @@ use Rattle.portclaims.proofs.Ways as Ways
 use Rattle.portclaims.proofs.Channels.{numbered-fresh, numbered-ended, numbered-again, numbered-heard, numbered-enters}
 use Rattle.portclaims.proofs.Tables as Tables
 use Rattle.portclaims.proofs.Led.{change-state, change-channel}
-use Rattle.portclaims.proofs.Shapes.{Rule, by-attach, by-detach, by-hard-reset, by-acknowledgement, by-failure, by-sender-response, by-source-capability, by-ps-hard-reset, by-supply-ready, by-yes, by-no, by-offer, New, fitIn, Shape, refused, idle, again as sent-again, led, heard as is-heard, shape}
+use Rattle.portclaims.proofs.Shapes.{Rule, by-attach, by-detach, by-hard-reset, by-acknowledgement, by-failure, by-sender-response, by-source-capability, by-ps-hard-reset, by-supply-ready, by-yes, by-no, by-offer, fitIn, Shape, refused, idle, again as sent-again, led, heard as is-heard, shape}
 
 -- ---- the parts of what is relied on that a way keeps or makes
 abbrev Known : Port → Type 0

@@ -1,5 +1,5 @@
 -- The pending MessageID is the counter, and no message is sent again more than twice: kept by every protocol rule and on every way. Assumes nothing.
-use Prim.Native.Nat.{ℕ, _+_, _%_, _<_, _≤_}
+use Prim.Native.Nat.{ℕ, _+_, _<_, _≤_}
 use native.Mathlib.Omega.{arith}
 use mathlib.Core.Path.{_≡_, refl, sym}
 use mathlib.Core.Bool.{Bool, true, false, cond}
@@ -7,11 +7,10 @@ use mathlib.Core.List.{List}
 use lib.Dec.{ltb, lit<}
 use Rattle.message.specs.Types as Types
 use Rattle.offers.specs.declared.Asked.{Asked}
-use Rattle.outgoing.specs.declared.Packet.{Packet}
 use Rattle.outgoing.specs.Packets.{controlOf, dataOf}
 use Rattle.outgoing.proofs.Whole.{control-id, data-id}
 use Rattle.channel.specs.declared.Channel.{Channel}
-use Rattle.channel.specs.Channel.{isPending, pendingId, nextId, mostRetries, onceMore, counterAfter, fresh, ended, again, heard, sends}
+use Rattle.channel.specs.Channel.{isPending, pendingId, mostRetries, counterAfter, fresh, ended, again, heard, sends}
 use Rattle.source.specs.declared.Way.{Way}
 use Rattle.port.specs.declared.Port.{Port}
 use Rattle.port.specs.Entering.{enter}

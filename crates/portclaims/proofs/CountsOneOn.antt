@@ -2,15 +2,14 @@
 -- count over (Soft, Hard, Answering, Detached). Assumes nothing.
 use Prim.Native.Nat.{ℕ}
 use mathlib.Core.Path.{_≡_, refl, sym, ap, subst, _∙_}
-use mathlib.Core.Bool.{Bool, true, false, not, _&&_, _||_}
-use mathlib.Core.List.{List}
+use mathlib.Core.Bool.{Bool, true, false, _&&_, _||_}
 use lib.Dec.{T}
 use Rattle.message.specs.declared.Fields.{Fields}
 use Rattle.meaning.specs.declared.Meaning.{Meaning}
 use Rattle.offers.specs.declared.Asked.{Asked}
 use Rattle.offers.specs.declared.Fit.{Fit}
 use Rattle.channel.specs.declared.Channel.{Channel}
-use Rattle.channel.specs.Channel.{isPending, nextId, counterAfter, ended, again as once-again, heard as hears, sends}
+use Rattle.channel.specs.Channel.{nextId, counterAfter, ended, again as once-again, heard as hears, sends}
 use Rattle.power.specs.declared.Change.{Change}
 use Rattle.power.specs.Power.{nothingAsked}
 use Rattle.source.specs.declared.State.{State}
@@ -29,9 +28,9 @@ use Rattle.source.proofs.Finite.{everywhere, at-packets}
 use Rattle.port.specs.declared.GoodCrc.{GoodCrc}
 use Rattle.port.specs.declared.Port.{Port}
 use Rattle.port.specs.declared.Answer.{Answer}
-use Rattle.port.specs.Memory.{stateOf, pendingIn, factsOf, runningIn, noCrc, cleared}
+use Rattle.port.specs.Memory.{stateOf, pendingIn, factsOf, runningIn, noCrc}
 use Rattle.port.specs.Entering.{enter}
-use Rattle.port.specs.Steps.{withChange, turn, ending, nothingDone, resent}
+use Rattle.port.specs.Steps.{withChange, turn, nothingDone, resent}
 use Rattle.port.specs.Packets.{heardAs, askedBy, isSoftReset, crcFor, hearing}
 use Rattle.port.specs.Calls.{Call, step}
 use Rattle.portclaims.specs.Between.{implies, pends, Between}

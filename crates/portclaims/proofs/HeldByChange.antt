@@ -1,9 +1,8 @@
 -- What happens to held power in an event is what the answer says: nothing; accepted, the larger of held and asked; in force, the accepted worth; given up, zero.
 -- Assumes nothing.
-use Prim.Native.Nat.{ℕ, max, _≤_}
-use native.Mathlib.Omega.{arith}
+use Prim.Native.Nat.{ℕ, max}
 use mathlib.Core.Path.{_≡_, refl, sym, ap, subst, _∙_}
-use mathlib.Core.Bool.{Bool, true, false, not, _&&_}
+use mathlib.Core.Bool.{Bool, true, not}
 use lib.Dec.{T}
 use Rattle.offers.specs.declared.Asked.{Asked}
 use Rattle.power.specs.declared.Change.{Change}
@@ -23,12 +22,11 @@ use Rattle.source.proofs.Finite.{everywhere}
 use Rattle.port.specs.declared.GoodCrc.{GoodCrc}
 use Rattle.port.specs.declared.Port.{Port}
 use Rattle.port.specs.declared.Answer.{Answer}
-use Rattle.port.specs.Memory.{stateOf, pendingIn, factsOf, runningIn, noCrc, cleared}
-use Rattle.port.specs.Entering.{enter}
+use Rattle.port.specs.Memory.{stateOf, pendingIn, factsOf, runningIn, noCrc}
 use Rattle.port.specs.Steps.{withChange, turn, nothingDone, resent}
 use Rattle.port.specs.Packets.{askedBy, isSoftReset, crcFor, hearing}
 use Rattle.port.specs.Calls.{Call, step}
-use Rattle.portclaims.specs.Between.{implies, calm, pends, isMade, worthIn, Between}
+use Rattle.portclaims.specs.Between.{calm, isMade, worthIn, Between}
 use Rattle.portclaims.proofs.Truth.{holds, true-not-false, second, not-true}
 use Rattle.portclaims.proofs.Ways as Ways
 use Rattle.portclaims.proofs.Led.{at-way}

@@ -1,5 +1,5 @@
 -- A port goes where the tables lead: the state after a step, from the state before it. Assumes nothing.
-use mathlib.Core.Path.{_≡_, refl, ap, subst, _∙_}
+use mathlib.Core.Path.{_≡_, refl, subst, _∙_}
 use mathlib.Core.Bool.{Bool, true}
 use lib.Dec.{T}
 use Rattle.offers.specs.declared.Asked.{Asked}
@@ -14,7 +14,6 @@ use Rattle.source.specs.States.{same}
 use Rattle.port.specs.declared.GoodCrc.{GoodCrc}
 use Rattle.port.specs.declared.Port.{Port}
 use Rattle.port.specs.Memory.{stateOf, pendingIn}
-use Rattle.port.specs.Entering.{enter}
 use Rattle.port.specs.Steps.{withChange, turn}
 use Rattle.port.specs.Calls.{Call}
 use Rattle.portclaims.proofs.Ways as Ways

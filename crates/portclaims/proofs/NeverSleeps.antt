@@ -1,7 +1,7 @@
 -- A port never sleeps: in every state that listens, and while a Hard Reset lasts, it is at rest with a receiver that may ask, or it waits for something that comes by itself
 -- (an acknowledgement or its timer, a timer that runs, the power answer, the supply); and each of these leads it on as the paper says. Assumes nothing.
 use Prim.Native.Nat.{ℕ}
-use mathlib.Core.Path.{_≡_, refl, sym, ap, _∙_}
+use mathlib.Core.Path.{_≡_, refl}
 use mathlib.Core.Bool.{Bool, true, false, not, cond, _&&_, _||_}
 use mathlib.Core.List.{List}
 use lib.Dec.{T, ltb, leb, eqb}
@@ -9,34 +9,28 @@ use Rattle.message.specs.declared.Fields.{Fields}
 use Rattle.meaning.specs.declared.Meaning.{Meaning}
 use Rattle.reading.specs.declared.Reading.{Reading}
 use Rattle.reading.specs.Reading.{readOf}
-use Rattle.channel.specs.Channel.{isPending, pendingId, isRepeat, mostRetries, ended, again as once-again}
+use Rattle.channel.specs.Channel.{pendingId, mostRetries}
 use Rattle.channel.specs.Outcomes.{onGoodCrc, onExpiry}
-use Rattle.power.specs.declared.Change.{Change}
 use Rattle.power.specs.declared.Contract.{Contract}
 use Rattle.power.specs.declared.Standing.{Standing}
 use Rattle.power.specs.Power.{standingOf, changed}
 use Rattle.source.specs.declared.State.{State}
-use Rattle.source.specs.declared.Heard.{Heard}
 use Rattle.source.specs.declared.Timer.{Timer}
 use Rattle.source.specs.declared.Timer.the-variants.{NoTimer, SenderResponse, SourceCapability, PsHardReset}
-use Rattle.source.specs.declared.Lead.the-variants.{Refuse, To}
-use Rattle.source.specs.declared.Way.{Way}
 use Rattle.source.specs.States.{same, listens, running}
 use Rattle.source.specs.Leads.{leads}
-use Rattle.source.specs.Packets.{onPacket}
 use Rattle.source.specs.Changes.{changeOf}
-use Rattle.source.proofs.Finite.{states, state}
+use Rattle.source.proofs.Finite.{state}
 use Rattle.port.specs.declared.Port.{Port}
 use Rattle.port.specs.declared.Event.{Event}
 use Rattle.port.specs.declared.Supply.the-variants.{Position}
-use Rattle.port.specs.Memory.{stateOf, pendingIn, runningIn, mostOffers}
+use Rattle.port.specs.Memory.{stateOf, pendingIn, mostOffers}
 use Rattle.port.specs.Entering.{enter}
 use Rattle.port.specs.Steps.{turn, happens, acknowledged, failed, resent, byOutcome, eventOf}
-use Rattle.port.specs.Packets.{meaningIn, heardAs, otherPacket, newPacket, goodCrcHeard, byMeaning, messageOf, packetOf}
+use Rattle.port.specs.Packets.{meaningIn, goodCrcHeard, byMeaning, messageOf, packetOf}
 use Rattle.port.specs.Calls.{event, packet, step}
 use Rattle.portclaims.specs.Between.{implies, pends, Between}
 use Rattle.portclaims.proofs.Truth.{then, and, first}
-use Rattle.portclaims.proofs.Shapes.{fitIn}
 
 -- ---- what a port waits for
 abbrev atRest : State → Bool

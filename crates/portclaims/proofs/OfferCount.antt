@@ -10,7 +10,7 @@ use lib.Dec.{T, ltb, leb, eqb, nltb→le}
 use Rattle.offers.specs.declared.Asked.{Asked}
 use Rattle.offers.specs.declared.Offer.{Offer}
 use Rattle.outgoing.specs.Packets.{controlOf, dataOf}
-use Rattle.channel.specs.Channel.{isPending, mostRetries, ended, again as once-again, heard as hears, sends}
+use Rattle.channel.specs.Channel.{mostRetries, ended, again as once-again, heard as hears, sends}
 use Rattle.power.specs.declared.Change.{Change}
 use Rattle.power.specs.Power.{nothingAsked}
 use Rattle.source.specs.declared.State.{State}

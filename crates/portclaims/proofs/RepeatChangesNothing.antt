@@ -1,10 +1,9 @@
 -- While a port listens, a readable packet that repeats the stored MessageID, Soft_Reset and GoodCRC aside, gets its GoodCRC again and changes nothing.
 -- Assumes nothing.
 use Prim.Native.Nat.{ℕ}
-use mathlib.Core.Path.{_≡_, refl, sym, _∙_}
+use mathlib.Core.Path.{_≡_, refl}
 use mathlib.Core.Bool.{Bool, true, false, cond}
 use mathlib.Core.List.{List}
-use lib.Dec.{T}
 use Rattle.ground.specs.declared.Verdict.the-variants.{Fine}
 use Rattle.message.specs.declared.Fields.{Fields}
 use Rattle.meaning.specs.declared.Meaning.{Meaning}
@@ -14,14 +13,11 @@ use Rattle.offers.specs.declared.Fit.{Fit}
 use Rattle.outgoing.specs.Packets.{noPacket}
 use Rattle.channel.specs.Channel.{isRepeat}
 use Rattle.power.specs.declared.Change.{Change}
-use Rattle.source.specs.declared.State.{State}
-use Rattle.source.specs.declared.Timer.{Timer}
 use Rattle.source.specs.declared.Timer.the-variants.{NoTimer}
-use Rattle.source.specs.States.{same, listens, stopped}
+use Rattle.source.specs.States.{same, listens}
 use Rattle.port.specs.declared.Supply.the-variants.{Unchanged}
 use Rattle.port.specs.declared.GoodCrc.{GoodCrc}
 use Rattle.port.specs.declared.Port.{Port}
-use Rattle.port.specs.declared.Actions.{Actions}
 use Rattle.port.specs.declared.Answer.{Answer}
 use Rattle.port.specs.Memory.{stateOf}
 use Rattle.port.specs.Steps.{nothingDone}

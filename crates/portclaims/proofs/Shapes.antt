@@ -1,7 +1,7 @@
 -- Every step of a port has one of five shapes: refused, nothing done, sent again, led on by a stimulus, led on by a new packet. The claims about all
 -- events go through these five. Assumes nothing.
 use Prim.Native.Nat.{ℕ}
-use mathlib.Core.Path.{_≡_, refl, sym, subst}
+use mathlib.Core.Path.{_≡_, refl}
 use mathlib.Core.Bool.{Bool, true, false, _&&_, not, cond}
 use mathlib.Core.List.{List}
 use lib.Dec.{ltb, eqb}
@@ -17,7 +17,7 @@ use Rattle.offers.specs.Offers.{goodOffer}
 use Rattle.offers.specs.Requests.{fitOf}
 use Rattle.channel.specs.declared.Outcome.{Outcome}
 use Rattle.channel.specs.declared.Outcome.the-variants.{NonePending, Acknowledged, Again, Failed}
-use Rattle.channel.specs.Channel.{isPending, pendingId, isRepeat, mostRetries}
+use Rattle.channel.specs.Channel.{pendingId, isRepeat, mostRetries}
 use Rattle.channel.specs.Outcomes.{outcomeOf, onGoodCrc, onExpiry}
 use Rattle.power.specs.declared.Change.{Change}
 use Rattle.power.specs.Power.{nothingAsked}

@@ -1,8 +1,8 @@
 -- The five slips of the old firmware, each ruled out by a claim of its own. Assumes nothing.
-use Prim.Native.Nat.{ℕ, max, _≤_}
+use Prim.Native.Nat.{ℕ, _≤_}
 use native.Mathlib.Omega.{arith}
 use mathlib.Core.Path.{_≡_, refl, sym, ap, _∙_}
-use mathlib.Core.Bool.{Bool, true, false, not, cond, _&&_, _||_}
+use mathlib.Core.Bool.{Bool, true, false, not, _&&_, _||_}
 use mathlib.Core.List.{List}
 use lib.Dec.{T, ltb}
 use Rattle.message.specs.declared.Fields.{Fields}
@@ -39,12 +39,12 @@ use Rattle.port.specs.Steps.{turn, happens, failed, byOutcome, nothingDone, res
 use Rattle.port.specs.Packets.{firstObject, meaningIn, heardAs, otherPacket, newPacket, byMeaning, messageOf, packetOf}
 use Rattle.port.specs.Calls.{Call, event, packet, step}
 use Rattle.portclaims.specs.Between.{implies, isReset, Between}
-use Rattle.portclaims.proofs.Truth.{holds, true-not-false, then}
+use Rattle.portclaims.proofs.Truth.{true-not-false, then}
 use Rattle.portclaims.proofs.Led.{at-way, is-same}
 use Rattle.portclaims.proofs.Between.{step-keeps}
 use Rattle.portclaims.proofs.HeldByChange.{heldAfter, held-by-change}
 use Rattle.portclaims.proofs.AcceptExactly.{FittingRequest, comes-to-ask}
-use Rattle.portclaims.proofs.Shapes.{fitIn, New, Shape, refused, idle, again, led, heard, shape}
+use Rattle.portclaims.proofs.Shapes.{Shape, refused, idle, again, led, heard, shape}
 
 -- ---- "Old power let go when the new Accept goes out, though the output has not moved."
 -- power is let go where the new contract is in force, or all is given up, and nowhere else

@@ -1,13 +1,13 @@
 -- The timer that runs, reckoned from the actions (started, stopped, expired), is always the one that belongs to the state and to what is pending. Assumes nothing.
 use Prim.Native.Nat.{ℕ}
-use mathlib.Core.Path.{_≡_, refl, sym, ap, _∙_}
+use mathlib.Core.Path.{_≡_, refl, sym}
 use mathlib.Core.Bool.{Bool, true, false, cond, _&&_}
 use mathlib.Core.List.{List}
 use lib.Dec.{T, eqb}
 use Rattle.ground.specs.declared.Verdict.{Verdict}
 use Rattle.ground.specs.declared.Verdict.the-variants.{Fine, Refused}
 use Rattle.offers.specs.declared.Asked.{Asked}
-use Rattle.channel.specs.Channel.{isPending, ended, again as once-again, heard as hears}
+use Rattle.channel.specs.Channel.{ended, again as once-again, heard as hears}
 use Rattle.power.specs.declared.Change.{Change}
 use Rattle.power.specs.Power.{nothingAsked}
 use Rattle.source.specs.declared.State.{State}

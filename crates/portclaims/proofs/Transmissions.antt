@@ -1,8 +1,8 @@
 -- Every transmission is either the first of a message made in that event or the pending bytes again after fewer than two retries; what is pending was made in one
 -- event and kept ever since, so what was acknowledged, has failed or was dropped is never sent again. Assumes nothing.
-use Prim.Native.Nat.{ℕ, _+_, _<_}
+use Prim.Native.Nat.{ℕ}
 use mathlib.Core.Path.{_≡_, refl, sym, ap, _∙_}
-use mathlib.Core.Bool.{Bool, true, false, cond}
+use mathlib.Core.Bool.{Bool, true, false}
 use mathlib.Core.List.{List, [], _∷_}
 use mathlib.Core.Logic.{_⊎_, inl, inr}
 use lib.Dec.{ltb}
@@ -28,7 +28,7 @@ use Rattle.port.specs.Entering.{enter}
 use Rattle.port.specs.Steps.{withChange, turn, nothingDone, resent}
 use Rattle.port.specs.Packets.{hearing, isSoftReset}
 use Rattle.port.specs.Calls.{Call, step, run}
-use Rattle.portclaims.specs.Messages.{control, offer, First, SentAgain, Transmits, nothing, first, again, Fate, kept, made, gone, Kept, to-the-end, through, Made, at-once, later}
+use Rattle.portclaims.specs.Messages.{control, offer, First, Transmits, nothing, first, again, Fate, kept, made, gone, Kept, to-the-end, through, Made, at-once, later}
 use Rattle.portclaims.proofs.Truth.{true-not-false, below}
 use Rattle.portclaims.proofs.Led.{change-channel}
 use Rattle.portclaims.proofs.Shapes.{Rule, by-attach, by-detach, by-hard-reset, by-acknowledgement, by-failure, by-sender-response, by-source-capability, by-ps-hard-reset, by-supply-ready, by-yes, by-no, by-offer, Shape, refused, idle, again as sent-again, led, heard, shape}

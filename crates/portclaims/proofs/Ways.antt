@@ -7,18 +7,14 @@ use mathlib.Core.Bool.{Bool, true, false}
 use lib.Dec.{ltb}
 use borrow.Author.Tests.{lt-ltb}
 use Rattle.offers.specs.declared.Asked.{Asked}
-use Rattle.channel.specs.Channel.{isPending, sends}
+use Rattle.channel.specs.Channel.{sends}
 use Rattle.power.specs.declared.Change.{Change}
-use Rattle.power.specs.Power.{changed}
 use Rattle.outgoing.specs.Packets.{controlOf, dataOf}
 use Rattle.source.specs.declared.State.{State}
-use Rattle.source.specs.declared.Stimulus.{Stimulus}
 use Rattle.source.specs.declared.Way.{Way}
 use Rattle.port.specs.declared.Port.{Port}
 use Rattle.port.specs.Memory.{stateOf, pendingIn}
 use Rattle.port.specs.Entering.{enter}
-use Rattle.port.specs.Steps.{withChange}
-use Rattle.portclaims.specs.Between.{isMade}
 
 abbrev pub stateAfter : State → Way → State
 stateAfter s Way.Stay = s

@@ -10,13 +10,11 @@ use Rattle.ground.specs.declared.Verdict.the-variants.{Refused}
 use Rattle.ground.specs.Refusals.{refuseIf}
 use Rattle.message.specs.Header.{fieldsOf, objectsOf, headerOf}
 use Rattle.message.specs.Bytes.{wordOf, isChunked, bytesOf}
-use Rattle.message.specs.declared.Fields.{Fields}
 use Rattle.meaning.specs.declared.Meaning.{Meaning}
 use Rattle.meaning.specs.Meaning.{meaningOf}
 use Rattle.reading.specs.declared.Reading.{Reading}
 use Rattle.reading.specs.Reading.{readOf, readingTried, partOf}
 use Rattle.offers.specs.declared.Offer.{Offer}
-use Rattle.offers.specs.declared.Asked.{Asked}
 use Rattle.offers.specs.Offers.{objectAt, goodObject, goodFrom, goodOffer}
 use Rattle.offers.specs.Requests.{fits, asked, fitOf, isHonoured}
 use Rattle.outgoing.specs.Packets.{onWire, controlOf, dataOf}
@@ -27,7 +25,7 @@ use Rattle.power.specs.declared.Contract.{Contract}
 use Rattle.power.specs.declared.Standing.{Standing}
 use Rattle.power.specs.Power.{changed, standingOf}
 use Rattle.source.specs.declared.State.{State}
-use Rattle.source.specs.States.{same, listens}
+use Rattle.source.specs.States.{listens}
 use Rattle.source.specs.Leads.{leads}
 use Rattle.source.specs.Packets.{onPacket}
 use Rattle.source.specs.Changes.{changeOf}

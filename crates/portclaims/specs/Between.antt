@@ -2,7 +2,6 @@
 use Prim.Native.Nat.{ℕ, _<_, _≤_}
 use mathlib.Core.Path.{_≡_}
 use mathlib.Core.Bool.{Bool, true, false, not, cond, _&&_}
-use Rattle.offers.specs.declared.Asked.{Asked}
 use Rattle.channel.specs.declared.Stored.{Stored}
 use Rattle.channel.specs.declared.Channel.{Channel}
 use Rattle.channel.specs.Channel.{isPending, pendingId, mostRetries, fresh}

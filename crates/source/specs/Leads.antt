@@ -1,5 +1,5 @@
 -- "The Source states": where each stimulus leads each state, new packets aside. What is not named: "Anything else is refusal 8."
-use mathlib.Core.Bool.{Bool, true, false, cond}
+use mathlib.Core.Bool.{Bool, cond}
 use mathlib.Core.List.{List, [], _∷_}
 use Rattle.power.specs.declared.Standing.{Standing}
 use Rattle.power.specs.declared.Standing.the-variants.{NoContract, Honoured, Broken}

@@ -1,5 +1,4 @@
 use borrow.Author.Needs.{needs}
-use mathlib.Core.Path.{_∙_}
 use Rattle.offers.specs.Requests.{fits}
 use Rattle.offers.proofs.fits_offer.Statement.{statement}
 use Rattle.offers.proofs.fits_offer.Tie as tie

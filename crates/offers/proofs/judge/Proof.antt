@@ -1,5 +1,4 @@
 use borrow.Author.Needs.{needs}
-use mathlib.Core.Path.{sym, _∙_}
 use Rattle.offers.specs.Requests.{fitOf}
 use Rattle.offers.proofs.judge.Statement.{statement}
 use Rattle.offers.proofs.judge.Tie as tie

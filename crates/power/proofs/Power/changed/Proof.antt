@@ -1,5 +1,4 @@
 use borrow.Author.Needs.{needs}
-use mathlib.Core.Path.{refl}
 use Rattle.power.specs.Power.{changed}
 use Rattle.power.proofs.Power.changed.Statement.{statement}
 use Rattle.power.proofs.Power.changed.Tie as tie

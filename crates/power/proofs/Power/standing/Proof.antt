@@ -1,5 +1,4 @@
 use borrow.Author.Needs.{needs}
-use mathlib.Core.Path.{_∙_}
 use Rattle.power.specs.Power.{standingOf}
 use Rattle.power.proofs.Power.standing.Statement.{statement}
 use Rattle.power.proofs.Power.standing.Tie as tie
