@@ -54,7 +54,7 @@ unfoldable pub turn : Port → State → GoodCrc → Timer → Change → Way �
 turn p before crc runs change way a = answered before crc runs change (enter way a (withChange change p))
 
 -- ---- what can happen, new packets aside
--- the port after the protocol rules, in whose place the old one stands while it is asked where its state leads
+-- where the rules lead nowhere the event is refused; else the port, as the protocol rules leave it, goes where they lead
 abbrev pub ledTo : Port → Stimulus → Port → Timer → Lead → Answer
 ledTo p e after runs Refuse = refusedBy NotAwaited p
 ledTo p e after runs (To way) = turn after (stateOf p) noCrc runs (changeOf (stateOf p) e) way nothingAsked

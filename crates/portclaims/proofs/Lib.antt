@@ -17,3 +17,4 @@ pub mod NeverSleeps
 pub mod OfferCount
 pub mod NothingLoose
 pub mod Witnesses
+pub mod ObjectsReadBack
