@@ -35,7 +35,7 @@ use Rattle.port.specs.Steps.{withChange, turn, nothingDone, resent}
 use Rattle.port.specs.Packets.{heardAs, askedBy, isSoftReset, crcFor, hearing}
 use Rattle.port.specs.Calls.{Call, step, run}
 use Rattle.portclaims.specs.Between.{implies, pends, Between}
-use Rattle.portclaims.specs.OfferCount.{offerMade, isGivenUp, countCleared, offersAfter, offersSince}
+use Rattle.portclaims.specs.OfferCount.{offerMade, isGivenUp, seenCleared, countCleared, offersAfter, offersSince}
 use Rattle.portclaims.proofs.Truth.{so, holds, true-not-false, then, and, first, second, not-true, below}
 use Rattle.portclaims.proofs.Ways as Ways
 use Rattle.portclaims.proofs.Ways.{some}
@@ -254,10 +254,6 @@ clearing Stimulus.SupplyReady = false
 clearing Stimulus.NewOffer = false
 clearing Stimulus.Yes = false
 clearing Stimulus.No = false
-
-abbrev seenCleared : State → Bool → State → Bool → Bool → Bool
-seenCleared s pending after pendingAfter given =
-    ((same s State.Offer && pending) && (same after State.Offer && not pendingAfter)) || (given || (same s State.Detached && not (same after State.Detached)))
 
 abbrev clearTest : State → Stimulus → Facts → Lead → Bool
 clearTest s e f Refuse = true

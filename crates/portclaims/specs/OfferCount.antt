@@ -22,11 +22,12 @@ isGivenUp Change.InForce = false
 isGivenUp Change.GivenUp = true
 
 -- the count is cleared: the offer is acknowledged; or all is given up (Default ready, detach); or the port is attached
+abbrev pub seenCleared : State → Bool → State → Bool → Bool → Bool
+seenCleared before pending after pendingAfter given =
+    ((same before State.Offer && pending) && (same after State.Offer && not pendingAfter)) || (given || (same before State.Detached && not (same after State.Detached)))
+
 abbrev pub countCleared : Port → Answer → Bool
-countCleared p a =
-    ((same (stateOf p) State.Offer && pendingIn p) && (same (stateOf (a .port)) State.Offer && not (pendingIn (a .port))))
-    || (isGivenUp (a .held)
-    || (same (stateOf p) State.Detached && not (same (stateOf (a .port)) State.Detached)))
+countCleared p a = seenCleared (stateOf p) (pendingIn p) (stateOf (a .port)) (pendingIn (a .port)) (isGivenUp (a .held))
 
 -- so many offers, and one step more
 abbrev pub offersAfter : ℕ → Port → Answer → ℕ

@@ -1,76 +1,70 @@
 -- "The Source states": where a new packet leads each state. Soft_Reset leads to Answering "in every listening state not named otherwise".
+use Prim.Native.Nat.{ℕ}
+use mathlib.Core.Bool.{Bool, cond}
+use mathlib.Core.List.{List, [], _∷_}
+use lib.Dec.{eqb}
 use Rattle.source.specs.declared.State.{State}
 use Rattle.source.specs.declared.Heard.{Heard}
-use Rattle.source.specs.declared.Heard.the-variants.{FittingRequest, OtherRequest, OtherReply, Quiet, Unsupported}
+use Rattle.source.specs.declared.Heard.the-variants.{FittingRequest, OtherRequest, OtherReply, Quiet}
 use Rattle.source.specs.declared.Lead.{Lead}
 use Rattle.source.specs.declared.Lead.the-variants.{Refuse, To}
 use Rattle.source.specs.declared.Way.{Way}
 
+-- kinds of packets told apart
+abbrev pub heardCode : Heard → ℕ
+heardCode Heard.FittingRequest = 0
+heardCode Heard.OtherRequest = 1
+heardCode Heard.Accept = 2
+heardCode Heard.OtherReply = 3
+heardCode Heard.GetSourceCap = 4
+heardCode Heard.SoftReset = 5
+heardCode Heard.Quiet = 6
+heardCode Heard.Unsupported = 7
+
+abbrev pub sameHeard : Heard → Heard → Bool
+sameHeard h x = eqb (heardCode h) (heardCode x)
+
+-- a kind of packet, and where it leads
+pub record Row : Type 0 where
+  pub heard : Heard
+  pub way : Way
+
+infixl 20 _leads-to_
+abbrev _leads-to_ : Heard → Way → Row
+h leads-to w = record { heard = h; way = w }
+
+-- where a packet leads by one row: the row's way for its kind, else what the other rows say
+abbrev pub whenHeard : Heard → Heard → Way → Way → Way
+whenHeard h x way other = cond (sameHeard h x) way other
+
+-- where a packet leads by a list of rows, and where every other packet does
+abbrev byRows : List Row → Way → Heard → Way
+byRows [] other h = other
+byRows (r ∷ rs) other h = whenHeard h (r .heard) (r .way) (byRows rs other h)
+
 -- "In Offer and Discovery a Request is awaited: one that fits goes to Judge, else Refusing. Any other packet but Soft_Reset: Soft."
 abbrev pub awaiting : Heard → Way
-awaiting FittingRequest = Way.Judge
-awaiting OtherRequest = Way.Refusing
-awaiting Heard.Accept = Way.Soft
-awaiting OtherReply = Way.Soft
-awaiting Heard.GetSourceCap = Way.Soft
-awaiting Heard.SoftReset = Way.Answering
-awaiting Quiet = Way.Soft
-awaiting Unsupported = Way.Soft
+awaiting = byRows ((FittingRequest leads-to Way.Judge) ∷ (OtherRequest leads-to Way.Refusing) ∷ (Heard.SoftReset leads-to Way.Answering) ∷ []) Way.Soft
 
 -- "Ready: Request as above; Get_Source_Cap: Offer; reply: Soft; quiet: nothing; unsupported: Declining."
 abbrev pub atRest : Heard → Way
-atRest FittingRequest = Way.Judge
-atRest OtherRequest = Way.Refusing
-atRest Heard.Accept = Way.Soft
-atRest OtherReply = Way.Soft
-atRest Heard.GetSourceCap = Way.Offer
-atRest Heard.SoftReset = Way.Answering
-atRest Quiet = Way.Stay
-atRest Unsupported = Way.Declining
+atRest = byRows ((FittingRequest leads-to Way.Judge) ∷ (OtherRequest leads-to Way.Refusing) ∷ (Heard.GetSourceCap leads-to Way.Offer) ∷ (Heard.Accept leads-to Way.Soft) ∷ (OtherReply leads-to Way.Soft) ∷ (Quiet leads-to Way.Stay) ∷ (Heard.SoftReset leads-to Way.Answering) ∷ []) Way.Declining
 
 -- "Any packet but Soft_Reset: Soft." (Judge, Refusing, Declining)
 abbrev pub answered : Heard → Way
-answered FittingRequest = Way.Soft
-answered OtherRequest = Way.Soft
-answered Heard.Accept = Way.Soft
-answered OtherReply = Way.Soft
-answered Heard.GetSourceCap = Way.Soft
-answered Heard.SoftReset = Way.Answering
-answered Quiet = Way.Soft
-answered Unsupported = Way.Soft
+answered = byRows ((Heard.SoftReset leads-to Way.Answering) ∷ []) Way.Soft
 
 -- "Waiting: Get_Source_Cap: Offer"; "any other packet but Soft_Reset: Soft"
 abbrev pub waited : Heard → Way
-waited FittingRequest = Way.Soft
-waited OtherRequest = Way.Soft
-waited Heard.Accept = Way.Soft
-waited OtherReply = Way.Soft
-waited Heard.GetSourceCap = Way.Offer
-waited Heard.SoftReset = Way.Answering
-waited Quiet = Way.Soft
-waited Unsupported = Way.Soft
+waited = byRows ((Heard.GetSourceCap leads-to Way.Offer) ∷ (Heard.SoftReset leads-to Way.Answering) ∷ []) Way.Soft
 
 -- "Soft: Accept: Offer. Another packet but Soft_Reset: Hard."
 abbrev pub resetting : Heard → Way
-resetting FittingRequest = Way.Hard
-resetting OtherRequest = Way.Hard
-resetting Heard.Accept = Way.Offer
-resetting OtherReply = Way.Hard
-resetting Heard.GetSourceCap = Way.Hard
-resetting Heard.SoftReset = Way.Answering
-resetting Quiet = Way.Hard
-resetting Unsupported = Way.Hard
+resetting = byRows ((Heard.Accept leads-to Way.Offer) ∷ (Heard.SoftReset leads-to Way.Answering) ∷ []) Way.Hard
 
 -- "Answering: another packet but Soft_Reset: Hard."
 abbrev pub answering : Heard → Way
-answering FittingRequest = Way.Hard
-answering OtherRequest = Way.Hard
-answering Heard.Accept = Way.Hard
-answering OtherReply = Way.Hard
-answering Heard.GetSourceCap = Way.Hard
-answering Heard.SoftReset = Way.Answering
-answering Quiet = Way.Hard
-answering Unsupported = Way.Hard
+answering = byRows ((Heard.SoftReset leads-to Way.Answering) ∷ []) Way.Hard
 
 -- "In these three (Accepting, Moving, Telling), any new packet (Soft_Reset too): Hard."
 unfoldable pub onPacket : State → Heard → Lead

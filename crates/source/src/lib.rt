@@ -3,11 +3,14 @@
 // memory: the port gives the facts that a state asks for.
 ghost use mathlib.Core.Path.{_≡_};
 ghost use Rattle.source.specs.States.{codeOf, same, listens, awaitsReply, running, stopped};
-ghost use Rattle.source.specs.Leads.{when, readyOr, waitingOr, afterReject, unheardOffer, noAnswer, offerAgain, onAttach, onDetach, onHardReset, onAcknowledged, onFailed, onSenderResponse, onSourceCapability, onPsHardReset, onSupplyReady, onNewOffer, onAnswer, leads};
-ghost use Rattle.source.specs.Packets.{awaiting, atRest, answered, waited, resetting, answering, onPacket};
+ghost use Rattle.source.specs.Leads.{leads};
+ghost use Rattle.source.specs.Packets.{onPacket};
 ghost use Rattle.source.specs.Changes.{changeOf, whenAcknowledged, whenSupplyReady};
 use power::Change;
 use power::Standing;
+
+mod packets;
+mod stimuli;
 
 // The sixteen states, by the paper's names.
 pub enum State {
@@ -133,7 +136,7 @@ fn code_of(s: State) -> u8
 }
 
 // Whether a state is this one.
-fn is(s: State, t: State) -> bool
+pub(crate) fn is(s: State, t: State) -> bool
     ensures { λ r. ⌜ r ≡ same s t ⌝ }
 {
     code_of(s) == code_of(t)
@@ -194,315 +197,24 @@ pub fn stopped(before: State, after: State, runs: Timer) -> Timer
     }
 }
 
-// ---- where each stimulus leads
-
-// Ready, or Offer at once.
-fn ready_or_offer(gone_out: bool) -> Way
-    ensures { λ r. ⌜ r ≡ readyOr «gone_out» ⌝ }
-{
-    if gone_out { Way::Ready } else { Way::Offer }
-}
-
-// Waiting, or Offer at once.
-fn waiting_or_offer(gone_out: bool) -> Way
-    ensures { λ r. ⌜ r ≡ waitingOr «gone_out» ⌝ }
-{
-    if gone_out { Way::Waiting } else { Way::Offer }
-}
-
-// A Reject is acknowledged.
-fn after_reject(contract: Standing, gone_out: bool) -> Way
-    ensures { λ r. ⌜ r ≡ afterReject contract «gone_out» ⌝ }
-{
-    match contract {
-        Standing::NoContract => waiting_or_offer(gone_out),
-        Standing::Honoured => ready_or_offer(gone_out),
-        Standing::Broken => Way::Hard,
-    }
-}
-
-// One row of a rule: where this state leads, else what the other rows say. A rule is put together from
-// its last row to its first.
-fn when(s: State, t: State, lead: Lead, other: Lead) -> Lead
-    ensures { λ r. ⌜ r ≡ when s t lead other ⌝ }
-{
-    if is(s, t) { lead } else { other }
-}
-
-// Attach.
-fn on_attach(s: State) -> Lead
-    ensures { λ r. ⌜ r ≡ onAttach s ⌝ }
-{
-    when(s, State::Detached, Lead::To(Way::Offer), Lead::Refuse)
-}
-
-// Detach.
-fn on_detach(s: State) -> Lead
-    ensures { λ r. ⌜ r ≡ onDetach s ⌝ }
-{
-    when(s, State::Detached, Lead::Refuse, Lead::To(Way::Detached))
-}
-
-// A heard Hard Reset.
-fn on_hard_reset(s: State) -> Lead
-    ensures { λ r. ⌜ r ≡ onHardReset s ⌝ }
-{
-    if listens(s) {
-        Lead::To(Way::HardHeard)
-    } else {
-        Lead::Refuse
-    }
-}
-
-// The pending message is acknowledged.
-fn on_acknowledged(s: State, contract: Standing, gone_out: bool) -> Lead
-    ensures { λ r. ⌜ r ≡ onAcknowledged s contract «gone_out» ⌝ }
-{
-    let answering = when(
-        s,
-        State::Answering,
-        Lead::To(Way::Offer),
-        Lead::To(Way::Stay),
-    );
-    let soft = when(s, State::Soft, Lead::To(Way::Softened), answering);
-    let refusing = when(
-        s,
-        State::Refusing,
-        Lead::To(after_reject(contract, gone_out)),
-        soft,
-    );
-    let declining = when(
-        s,
-        State::Declining,
-        Lead::To(ready_or_offer(gone_out)),
-        refusing,
-    );
-    let telling = when(
-        s,
-        State::Telling,
-        Lead::To(ready_or_offer(gone_out)),
-        declining,
-    );
-    let accepting = when(s, State::Accepting, Lead::To(Way::Moving), telling);
-    when(s, State::Offer, Lead::To(Way::Offered), accepting)
-}
-
-// No one acknowledges an offer.
-fn unheard_offer(connected: bool) -> Way
-    ensures { λ r. ⌜ r ≡ unheardOffer connected ⌝ }
-{
-    if connected { Way::Soft } else { Way::Discovery }
-}
-
-// The pending message has failed.
-fn on_failed(s: State, connected: bool) -> Lead
-    ensures { λ r. ⌜ r ≡ onFailed s connected ⌝ }
-{
-    let answering = when(
-        s,
-        State::Answering,
-        Lead::To(Way::Hard),
-        Lead::To(Way::Stay),
-    );
-    let soft = when(s, State::Soft, Lead::To(Way::Hard), answering);
-    let waiting = when(s, State::Waiting, Lead::To(Way::Soft), soft);
-    let declining = when(s, State::Declining, Lead::To(Way::Soft), waiting);
-    let refusing = when(s, State::Refusing, Lead::To(Way::Soft), declining);
-    let telling = when(s, State::Telling, Lead::To(Way::Hard), refusing);
-    let moving = when(s, State::Moving, Lead::To(Way::Hard), telling);
-    let accepting = when(s, State::Accepting, Lead::To(Way::Hard), moving);
-    when(
-        s,
-        State::Offer,
-        Lead::To(unheard_offer(connected)),
-        accepting,
-    )
-}
-
-// SenderResponse expires, which runs once the message is acknowledged.
-fn no_answer(pending: bool) -> Lead
-    ensures { λ r. ⌜ r ≡ noAnswer pending ⌝ }
-{
-    if pending {
-        Lead::Refuse
-    } else {
-        Lead::To(Way::Hard)
-    }
-}
-
-// The expiry of SenderResponse.
-fn on_sender_response(s: State, pending: bool) -> Lead
-    ensures { λ r. ⌜ r ≡ onSenderResponse s pending ⌝ }
-{
-    let soft = when(s, State::Soft, no_answer(pending), Lead::Refuse);
-    when(s, State::Offer, no_answer(pending), soft)
-}
-
-// Offer once more, or never again.
-fn offer_again(fifty: bool) -> Way
-    ensures { λ r. ⌜ r ≡ offerAgain fifty ⌝ }
-{
-    if fifty { Way::Disabled } else { Way::Offer }
-}
-
-// The expiry of SourceCapability.
-fn on_source_capability(s: State, fifty: bool) -> Lead
-    ensures { λ r. ⌜ r ≡ onSourceCapability s fifty ⌝ }
-{
-    when(
-        s,
-        State::Discovery,
-        Lead::To(offer_again(fifty)),
-        Lead::Refuse,
-    )
-}
-
-// The expiry of PSHardReset.
-fn on_ps_hard_reset(s: State) -> Lead
-    ensures { λ r. ⌜ r ≡ onPsHardReset s ⌝ }
-{
-    when(s, State::Hard, Lead::To(Way::Default), Lead::Refuse)
-}
-
-// The supply is ready.
-fn on_supply_ready(s: State) -> Lead
-    ensures { λ r. ⌜ r ≡ onSupplyReady s ⌝ }
-{
-    let at_default = when(s, State::Default, Lead::To(Way::Offer), Lead::Refuse);
-    when(s, State::Moving, Lead::To(Way::Telling), at_default)
-}
-
-// A new offer is given.
-fn on_new_offer(s: State) -> Lead
-    ensures { λ r. ⌜ r ≡ onNewOffer s ⌝ }
-{
-    let waiting = when(s, State::Waiting, Lead::To(Way::Offer), Lead::To(Way::Stay));
-    when(s, State::Ready, Lead::To(Way::Offer), waiting)
-}
-
-// The power answer.
-fn on_answer(s: State, lead: Lead) -> Lead
-    ensures { λ r. ⌜ r ≡ onAnswer s lead ⌝ }
-{
-    when(s, State::Judge, lead, Lead::Refuse)
-}
-
 // Where a stimulus leads a state.
 pub fn leads(s: State, e: Stimulus, f: Facts) -> Lead
     ensures { λ r. ⌜ r ≡ leads s e f ⌝ }
 {
     let contract = f.standing;
     match e {
-        Stimulus::Attach => on_attach(s),
-        Stimulus::Detach => on_detach(s),
-        Stimulus::HardReset => on_hard_reset(s),
-        Stimulus::Acknowledged => on_acknowledged(s, contract, f.gone_out),
-        Stimulus::Failed => on_failed(s, f.connected),
-        Stimulus::SenderResponse => on_sender_response(s, f.pending),
-        Stimulus::SourceCapability => on_source_capability(s, f.fifty),
-        Stimulus::PsHardReset => on_ps_hard_reset(s),
-        Stimulus::SupplyReady => on_supply_ready(s),
-        Stimulus::NewOffer => on_new_offer(s),
-        Stimulus::Yes => on_answer(s, Lead::To(Way::Accepting)),
-        Stimulus::No => on_answer(s, Lead::To(Way::Refusing)),
-    }
-}
-
-// ---- where a new packet leads
-
-// Offer and Discovery await a Request.
-fn awaiting(h: Heard) -> Way
-    ensures { λ r. ⌜ r ≡ awaiting h ⌝ }
-{
-    match h {
-        Heard::FittingRequest => Way::Judge,
-        Heard::OtherRequest => Way::Refusing,
-        Heard::Accept => Way::Soft,
-        Heard::OtherReply => Way::Soft,
-        Heard::GetSourceCap => Way::Soft,
-        Heard::SoftReset => Way::Answering,
-        Heard::Quiet => Way::Soft,
-        Heard::Unsupported => Way::Soft,
-    }
-}
-
-// Ready.
-fn at_rest(h: Heard) -> Way
-    ensures { λ r. ⌜ r ≡ atRest h ⌝ }
-{
-    match h {
-        Heard::FittingRequest => Way::Judge,
-        Heard::OtherRequest => Way::Refusing,
-        Heard::Accept => Way::Soft,
-        Heard::OtherReply => Way::Soft,
-        Heard::GetSourceCap => Way::Offer,
-        Heard::SoftReset => Way::Answering,
-        Heard::Quiet => Way::Stay,
-        Heard::Unsupported => Way::Declining,
-    }
-}
-
-// Judge, Refusing and Declining await no packet.
-fn answered(h: Heard) -> Way
-    ensures { λ r. ⌜ r ≡ answered h ⌝ }
-{
-    match h {
-        Heard::FittingRequest => Way::Soft,
-        Heard::OtherRequest => Way::Soft,
-        Heard::Accept => Way::Soft,
-        Heard::OtherReply => Way::Soft,
-        Heard::GetSourceCap => Way::Soft,
-        Heard::SoftReset => Way::Answering,
-        Heard::Quiet => Way::Soft,
-        Heard::Unsupported => Way::Soft,
-    }
-}
-
-// Waiting.
-fn waited(h: Heard) -> Way
-    ensures { λ r. ⌜ r ≡ waited h ⌝ }
-{
-    match h {
-        Heard::FittingRequest => Way::Soft,
-        Heard::OtherRequest => Way::Soft,
-        Heard::Accept => Way::Soft,
-        Heard::OtherReply => Way::Soft,
-        Heard::GetSourceCap => Way::Offer,
-        Heard::SoftReset => Way::Answering,
-        Heard::Quiet => Way::Soft,
-        Heard::Unsupported => Way::Soft,
-    }
-}
-
-// Soft awaits Accept.
-fn resetting(h: Heard) -> Way
-    ensures { λ r. ⌜ r ≡ resetting h ⌝ }
-{
-    match h {
-        Heard::FittingRequest => Way::Hard,
-        Heard::OtherRequest => Way::Hard,
-        Heard::Accept => Way::Offer,
-        Heard::OtherReply => Way::Hard,
-        Heard::GetSourceCap => Way::Hard,
-        Heard::SoftReset => Way::Answering,
-        Heard::Quiet => Way::Hard,
-        Heard::Unsupported => Way::Hard,
-    }
-}
-
-// Answering awaits no packet.
-fn answering(h: Heard) -> Way
-    ensures { λ r. ⌜ r ≡ answering h ⌝ }
-{
-    match h {
-        Heard::FittingRequest => Way::Hard,
-        Heard::OtherRequest => Way::Hard,
-        Heard::Accept => Way::Hard,
-        Heard::OtherReply => Way::Hard,
-        Heard::GetSourceCap => Way::Hard,
-        Heard::SoftReset => Way::Answering,
-        Heard::Quiet => Way::Hard,
-        Heard::Unsupported => Way::Hard,
+        Stimulus::Attach => stimuli::on_attach(s),
+        Stimulus::Detach => stimuli::on_detach(s),
+        Stimulus::HardReset => stimuli::on_hard_reset(s),
+        Stimulus::Acknowledged => stimuli::on_acknowledged(s, contract, f.gone_out),
+        Stimulus::Failed => stimuli::on_failed(s, f.connected),
+        Stimulus::SenderResponse => stimuli::on_sender_response(s, f.pending),
+        Stimulus::SourceCapability => stimuli::on_source_capability(s, f.fifty),
+        Stimulus::PsHardReset => stimuli::on_ps_hard_reset(s),
+        Stimulus::SupplyReady => stimuli::on_supply_ready(s),
+        Stimulus::NewOffer => stimuli::on_new_offer(s),
+        Stimulus::Yes => stimuli::on_answer(s, Lead::To(Way::Accepting)),
+        Stimulus::No => stimuli::on_answer(s, Lead::To(Way::Refusing)),
     }
 }
 
@@ -512,25 +224,23 @@ pub fn packet_leads(s: State, h: Heard) -> Lead
 {
     match s {
         State::Detached => Lead::Refuse,
-        State::Offer => Lead::To(awaiting(h)),
-        State::Discovery => Lead::To(awaiting(h)),
+        State::Offer => Lead::To(packets::awaiting(h)),
+        State::Discovery => Lead::To(packets::awaiting(h)),
         State::Disabled => Lead::Refuse,
-        State::Judge => Lead::To(answered(h)),
+        State::Judge => Lead::To(packets::answered(h)),
         State::Accepting => Lead::To(Way::Hard),
         State::Moving => Lead::To(Way::Hard),
         State::Telling => Lead::To(Way::Hard),
-        State::Ready => Lead::To(at_rest(h)),
-        State::Declining => Lead::To(answered(h)),
-        State::Refusing => Lead::To(answered(h)),
-        State::Waiting => Lead::To(waited(h)),
-        State::Soft => Lead::To(resetting(h)),
-        State::Answering => Lead::To(answering(h)),
+        State::Ready => Lead::To(packets::at_rest(h)),
+        State::Declining => Lead::To(packets::answered(h)),
+        State::Refusing => Lead::To(packets::answered(h)),
+        State::Waiting => Lead::To(packets::waited(h)),
+        State::Soft => Lead::To(packets::resetting(h)),
+        State::Answering => Lead::To(packets::answering(h)),
         State::Hard => Lead::Refuse,
         State::Default => Lead::Refuse,
     }
 }
-
-// ---- what happens to held power
 
 // PS_RDY is acknowledged: what was accepted is in force.
 fn when_acknowledged(s: State) -> Change

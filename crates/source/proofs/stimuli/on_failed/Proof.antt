@@ -1,7 +1,7 @@
 use borrow.Author.Needs.{needs}
 use mathlib.Core.Path.{_∙_}
-use Rattle.source.proofs.on_failed.Statement.{statement}
-use Rattle.source.proofs.on_failed.Tie as tie
+use Rattle.source.proofs.stimuli.on_failed.Statement.{statement}
+use Rattle.source.proofs.stimuli.on_failed.Tie as tie
 
 pub on-failed-spec : {M : Type 1} → statement M
 on-failed-spec =

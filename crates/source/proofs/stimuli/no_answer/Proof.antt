@@ -1,5 +1,5 @@
-use Rattle.source.proofs.no_answer.Statement.{statement}
-use Rattle.source.proofs.no_answer.Tie as tie
+use Rattle.source.proofs.stimuli.no_answer.Statement.{statement}
+use Rattle.source.proofs.stimuli.no_answer.Tie as tie
 
 pub no-answer-spec : {M : Type 1} → statement M
 no-answer-spec =

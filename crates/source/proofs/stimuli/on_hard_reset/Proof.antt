@@ -1,6 +1,6 @@
 use borrow.Author.Needs.{needs}
-use Rattle.source.proofs.on_hard_reset.Statement.{statement}
-use Rattle.source.proofs.on_hard_reset.Tie as tie
+use Rattle.source.proofs.stimuli.on_hard_reset.Statement.{statement}
+use Rattle.source.proofs.stimuli.on_hard_reset.Tie as tie
 
 pub on-hard-reset-spec : {M : Type 1} → statement M
 on-hard-reset-spec =

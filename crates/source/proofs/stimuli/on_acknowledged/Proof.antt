@@ -1,7 +1,7 @@
 use borrow.Author.Needs.{needs}
 use mathlib.Core.Path.{_∙_}
-use Rattle.source.proofs.on_acknowledged.Statement.{statement}
-use Rattle.source.proofs.on_acknowledged.Tie as tie
+use Rattle.source.proofs.stimuli.on_acknowledged.Statement.{statement}
+use Rattle.source.proofs.stimuli.on_acknowledged.Tie as tie
 
 pub on-acknowledged-spec : {M : Type 1} → statement M
 on-acknowledged-spec =

@@ -1,7 +1,7 @@
 use borrow.Author.Needs.{needs}
 use mathlib.Core.Path.{_∙_}
-use Rattle.source.proofs.on_new_offer.Statement.{statement}
-use Rattle.source.proofs.on_new_offer.Tie as tie
+use Rattle.source.proofs.stimuli.on_new_offer.Statement.{statement}
+use Rattle.source.proofs.stimuli.on_new_offer.Tie as tie
 
 pub on-new-offer-spec : {M : Type 1} → statement M
 on-new-offer-spec =

@@ -1,6 +1,6 @@
 use borrow.Author.Needs.{needs}
-use Rattle.source.proofs.after_reject.Statement.{statement}
-use Rattle.source.proofs.after_reject.Tie as tie
+use Rattle.source.proofs.stimuli.after_reject.Statement.{statement}
+use Rattle.source.proofs.stimuli.after_reject.Tie as tie
 
 pub after-reject-spec : {M : Type 1} → statement M
 after-reject-spec =

@@ -1,6 +1,6 @@
 use borrow.Author.Needs.{needs}
-use Rattle.source.proofs.when.Statement.{statement}
-use Rattle.source.proofs.when.Tie as tie
+use Rattle.source.proofs.stimuli.when.Statement.{statement}
+use Rattle.source.proofs.stimuli.when.Tie as tie
 
 pub when-spec : {M : Type 1} → statement M
 when-spec =

@@ -1,7 +1,7 @@
 use borrow.Author.Needs.{needs}
 use mathlib.Core.Path.{_∙_}
-use Rattle.source.proofs.on_sender_response.Statement.{statement}
-use Rattle.source.proofs.on_sender_response.Tie as tie
+use Rattle.source.proofs.stimuli.on_sender_response.Statement.{statement}
+use Rattle.source.proofs.stimuli.on_sender_response.Tie as tie
 
 pub on-sender-response-spec : {M : Type 1} → statement M
 on-sender-response-spec =

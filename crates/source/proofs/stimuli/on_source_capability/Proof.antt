@@ -1,7 +1,7 @@
 use borrow.Author.Needs.{needs}
 use mathlib.Core.Path.{_∙_}
-use Rattle.source.proofs.on_source_capability.Statement.{statement}
-use Rattle.source.proofs.on_source_capability.Tie as tie
+use Rattle.source.proofs.stimuli.on_source_capability.Statement.{statement}
+use Rattle.source.proofs.stimuli.on_source_capability.Tie as tie
 
 pub on-source-capability-spec : {M : Type 1} → statement M
 on-source-capability-spec =

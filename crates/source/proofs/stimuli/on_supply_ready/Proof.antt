@@ -1,7 +1,7 @@
 use borrow.Author.Needs.{needs}
 use mathlib.Core.Path.{_∙_}
-use Rattle.source.proofs.on_supply_ready.Statement.{statement}
-use Rattle.source.proofs.on_supply_ready.Tie as tie
+use Rattle.source.proofs.stimuli.on_supply_ready.Statement.{statement}
+use Rattle.source.proofs.stimuli.on_supply_ready.Tie as tie
 
 pub on-supply-ready-spec : {M : Type 1} → statement M
 on-supply-ready-spec =
