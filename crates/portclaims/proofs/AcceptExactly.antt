@@ -4,7 +4,7 @@
 use Prim.Native.Nat.{ℕ, max}
 use mathlib.Core.Path.{_≡_, refl, sym, subst, _∙_}
 use mathlib.Core.Bool.{Bool, true, false, not, cond, _&&_, _||_}
-use mathlib.Core.List.{List}
+use mathlib.Core.List.{List, [], _∷_}
 use lib.Dec.{T, eqb}
 use Rattle.message.specs.declared.Fields.{Fields}
 use Rattle.message.specs.Types as Types
@@ -28,7 +28,7 @@ use Rattle.source.specs.declared.Lead.the-variants.{Refuse, To}
 use Rattle.source.specs.declared.Way.{Way}
 use Rattle.source.specs.States.{same}
 use Rattle.source.specs.Leads.{leads}
-use Rattle.source.specs.Packets.{onPacket}
+use Rattle.source.specs.Packets.{sameHeard, onPacket}
 use Rattle.source.specs.Changes.{changeOf}
 use Rattle.source.proofs.Finite.{everywhere, at-packets}
 use Rattle.port.specs.declared.Port.{Port}
@@ -40,6 +40,7 @@ use Rattle.port.specs.Steps.{turn, happens, resent, nothingDone, eventOf}
 use Rattle.port.specs.Packets.{firstObject, heardAs, requested, askedBy, isSoftReset, crcFor, hearing, otherPacket, newPacket, byMeaning, messageOf, packetOf}
 use Rattle.port.specs.Calls.{Call, event, packet, step}
 use Rattle.portclaims.specs.Between.{implies}
+use Rattle.portclaims.proofs.Groups.{oneStimulusOf}
 use Rattle.portclaims.proofs.Truth.{true-not-false, then, and, first, second, not-true, not-false}
 use Rattle.portclaims.proofs.Led.{turn-state, led-state, at-way, is-same}
 use Rattle.portclaims.proofs.Ways as Ways
@@ -101,14 +102,7 @@ unfolding leads
 no-stimulus-asks = everywhere (λ s e f. judgeTest s e (leads s e f)) tt
 
 abbrev isFitting : Heard → Bool
-isFitting Heard.FittingRequest = true
-isFitting Heard.OtherRequest = false
-isFitting Heard.Accept = false
-isFitting Heard.OtherReply = false
-isFitting Heard.GetSourceCap = false
-isFitting Heard.SoftReset = false
-isFitting Heard.Quiet = false
-isFitting Heard.Unsupported = false
+isFitting h = sameHeard h Heard.FittingRequest
 
 abbrev askTest : State → Heard → Lead → Bool
 askTest s h Refuse = true
@@ -207,18 +201,7 @@ module _ (p : Port) (judging : stateOf p ≡ State.Judge) where
 
 -- ---- and only at yes
 abbrev isYes : Stimulus → Bool
-isYes Stimulus.Yes = true
-isYes Stimulus.Attach = false
-isYes Stimulus.Detach = false
-isYes Stimulus.HardReset = false
-isYes Stimulus.Acknowledged = false
-isYes Stimulus.Failed = false
-isYes Stimulus.SenderResponse = false
-isYes Stimulus.SourceCapability = false
-isYes Stimulus.PsHardReset = false
-isYes Stimulus.SupplyReady = false
-isYes Stimulus.NewOffer = false
-isYes Stimulus.No = false
+isYes e = oneStimulusOf (Stimulus.Yes ∷ []) e
 
 abbrev acceptTest : State → Stimulus → Lead → Bool
 acceptTest s e Refuse = true

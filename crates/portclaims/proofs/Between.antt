@@ -307,16 +307,16 @@ module _ (p : Port) (k : Between p) where
     deaf h = r .reset (rw (r .state) h)
 
     end-state : stateOf end ≡ Ways.stateAfter (Tables.ruledState e (stateOf p)) way
-    end-state = Ways.enters a changed-port way ∙ rw (change-state q change, r .state)
+    end-state = Ways.goes way a changed-port .state ∙ rw (change-state q change, r .state)
 
     end-pending : pendingIn end ≡ Ways.pendingAfter (Tables.ruledPending e (pendingIn p)) way
-    end-pending = Ways.pending a changed-port way ∙ rw (change-channel q change, r .pending)
+    end-pending = Ways.goes way a changed-port .pending ∙ rw (change-channel q change, r .pending)
 
     end-gone-out : end .«gone_out» ≡ Ways.goneOutAfter (Tables.ruledGoneOut e (p .«gone_out»)) way
-    end-gone-out = Ways.gone-out a changed-port way ∙ rw (change-gone-out q change, r .gone-out)
+    end-gone-out = Ways.goes way a changed-port .gone-out ∙ rw (change-gone-out q change, r .gone-out)
 
     end-made : isMade (end .power .contract) ≡ Ways.madeAfter (Tables.ruledMade e (Tables.madeBy (factsOf p .standing))) change
-    end-made = rw (Ways.contract a changed-port way, change-made q change, r .made, made-by (p .power .contract) (p .last))
+    end-made = rw (Ways.goes way a changed-port .contract, change-made q change, r .made, made-by (p .power .contract) (p .last))
 
     calmly : calm (stateOf end) (pendingIn end) (end .«gone_out») (isMade (end .power .contract)) ≡ true
     calmly =
@@ -329,7 +329,7 @@ module _ (p : Port) (k : Between p) where
 
     holding : inBetween (stateOf end) ≡ false → end .power .held ≡ worthIn (end .power .contract)
     holding h =
-        rw (Ways.held a changed-port way, Ways.contract a changed-port way)
+        rw (Ways.goes way a changed-port .held, Ways.goes way a changed-port .contract)
         (change-holds q change (inBetween (Tables.ruledState e (stateOf p))) (inBetween (Ways.stateAfter (Tables.ruledState e (stateOf p)) way))
         (of-lead (Tables.heldTest (stateOf p) e) (Tables.held-kept (stateOf p) e (factsOf p)))
         (λ b. r .held (rw (r .state) b))
@@ -400,7 +400,7 @@ module _ (p : Port) (k : Between p) where
 
     calm-after : calm (stateOf after) (pendingIn after) (after .«gone_out») (isMade (after .power .contract)) ≡ true
     calm-after =
-        rw (Ways.enters a hearer way, Ways.pending a hearer way, none-left, Ways.gone-out a hearer way, Ways.contract a hearer way)
+        rw (Ways.goes way a hearer .state, Ways.goes way a hearer .pending, none-left, Ways.goes way a hearer .gone-out, Ways.goes way a hearer .contract)
         (then (atReady && atDeclining) (calm (Ways.stateAfter (stateOf p) way) (Ways.pendingAfter false way) (Ways.goneOutAfter (p .«gone_out») way) (isMade (p .power .contract)))
         (of-packet (Tables.calmHeard (stateOf p) (p .«gone_out») (isMade (p .power .contract))) (Tables.calm-heard (stateOf p) h (p .«gone_out») (isMade (p .power .contract)))) was-calm)
 
@@ -416,10 +416,10 @@ module _ (p : Port) (k : Between p) where
           known = known-enters way a hearer (λ i e. refl);
           shown = shown-enters way a hearer (k .shown);
           holds =
-              λ x. rw (Ways.held a hearer way, Ways.contract a hearer way)
+              λ x. rw (Ways.goes way a hearer .held, Ways.goes way a hearer .contract)
               (k .holds
               (not-true (inBetween (stateOf p))
-              (then _ _ (so _ (second (not (isReset (stateOf p))) _ (second (not (Tables.isDeafWay way)) rested rest))) (not-false _ (rw (Ways.enters a hearer way) at x)))));
+              (then _ _ (so _ (second (not (isReset (stateOf p))) _ (second (not (Tables.isDeafWay way)) rested rest))) (not-false _ (rw (Ways.goes way a hearer .state) at x)))));
           counted = counted-enters way a hearer (k .counted);
         }
 

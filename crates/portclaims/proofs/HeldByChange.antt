@@ -49,7 +49,7 @@ with-change Change.GivenUp q = refl
 turn-holds : (q : Port) (s : State) (crc : GoodCrc) (t : Timer) (c : Change) (w : Way) (a : Asked) →
     turn q s crc t c w a .port .power .held ≡ heldAfter c (q .power .held) (q .power .accepted .worth)
 unfolding turn
-turn-holds q s crc t c w a = Ways.held a (withChange c q) w ∙ with-change c q
+turn-holds q s crc t c w a = Ways.goes w a (withChange c q) .held ∙ with-change c q
 
 -- only a port that is Detached is attached
 abbrev attachTest : State → Lead → Bool

@@ -48,11 +48,11 @@ rule-state p c e q t (by-offer limit o good) = refl
 
 pub turn-state : (q : Port) (s : State) (crc : GoodCrc) (t : Timer) (c : Change) (w : Way) (a : Asked) → stateOf (turn q s crc t c w a .port) ≡ Ways.stateAfter (stateOf q) w
 unfolding turn
-turn-state q s crc t c w a = Ways.enters a (withChange c q) w ∙ rw (change-state q c)
+turn-state q s crc t c w a = Ways.goes w a (withChange c q) .state ∙ rw (change-state q c)
 
 pub turn-pending : (q : Port) (s : State) (crc : GoodCrc) (t : Timer) (c : Change) (w : Way) (a : Asked) → pendingIn (turn q s crc t c w a .port) ≡ Ways.pendingAfter (pendingIn q) w
 unfolding turn
-turn-pending q s crc t c w a = Ways.pending a (withChange c q) w ∙ rw (change-channel q c)
+turn-pending q s crc t c w a = Ways.goes w a (withChange c q) .pending ∙ rw (change-channel q c)
 
 pub led-state : (p : Port) (c : Call) (e : Stimulus) (q : Port) (t : Timer) → Rule p c e q t → (crc : GoodCrc) (u : Timer) (d : Change) (w : Way) (a : Asked) →
     stateOf (turn q (stateOf p) crc u d w a .port) ≡ Ways.stateAfter (Tables.ruledState e (stateOf p)) w

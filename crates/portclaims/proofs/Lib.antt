@@ -2,6 +2,7 @@ pub mod Shapes
 pub mod RefusedChangesNothing
 pub mod RepeatChangesNothing
 pub mod Truth
+pub mod Groups
 pub mod Ways
 pub mod Channels
 pub mod Tables

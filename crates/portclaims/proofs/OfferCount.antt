@@ -9,8 +9,7 @@ use mathlib.Core.List.{List, [], _∷_}
 use lib.Dec.{T, ltb, leb, eqb, nltb→le}
 use Rattle.offers.specs.declared.Asked.{Asked}
 use Rattle.offers.specs.declared.Offer.{Offer}
-use Rattle.outgoing.specs.Packets.{controlOf, dataOf}
-use Rattle.channel.specs.Channel.{mostRetries, ended, again as once-again, heard as hears, sends}
+use Rattle.channel.specs.Channel.{mostRetries, ended, again as once-again, heard as hears}
 use Rattle.power.specs.declared.Change.{Change}
 use Rattle.power.specs.Power.{nothingAsked}
 use Rattle.source.specs.declared.State.{State}
@@ -30,136 +29,23 @@ use Rattle.port.specs.declared.GoodCrc.{GoodCrc}
 use Rattle.port.specs.declared.Port.{Port}
 use Rattle.port.specs.declared.Answer.{Answer}
 use Rattle.port.specs.Memory.{stateOf, pendingIn, factsOf, runningIn, noCrc, mostOffers, detachedPort}
-use Rattle.port.specs.Entering.{enter, oneOffer}
+use Rattle.port.specs.Entering.{oneOffer}
 use Rattle.port.specs.Steps.{withChange, turn, nothingDone, resent}
 use Rattle.port.specs.Packets.{heardAs, askedBy, isSoftReset, crcFor, hearing}
 use Rattle.port.specs.Calls.{Call, step, run}
 use Rattle.portclaims.specs.Between.{implies, pends, Between}
 use Rattle.portclaims.specs.OfferCount.{offerMade, isGivenUp, seenCleared, countCleared, offersAfter, offersSince}
+use Rattle.portclaims.proofs.Groups.{isSending, isOffer, isOffered, clears}
 use Rattle.portclaims.proofs.Truth.{so, holds, true-not-false, then, and, first, second, not-true, below}
 use Rattle.portclaims.proofs.Ways as Ways
-use Rattle.portclaims.proofs.Ways.{some}
 use Rattle.portclaims.proofs.Tables as Tables
 use Rattle.portclaims.proofs.Led.{turn-state, turn-pending, led-state, at-way, is-same}
 use Rattle.portclaims.proofs.Between.{step-keeps, at-first}
 use Rattle.portclaims.proofs.Shapes.{Rule, by-attach, by-detach, by-hard-reset, by-acknowledgement, by-failure, by-sender-response, by-source-capability, by-ps-hard-reset, by-supply-ready, by-yes, by-no, by-offer, fitIn, Shape, refused, idle, again as sent-again, led, heard, shape}
 
 -- ---- what a way does to the count, and to what goes out
-abbrev isOffer : Way → Bool
-isOffer Way.Stay = false
-isOffer Way.Offered = false
-isOffer Way.Softened = false
-isOffer Way.Offer = true
-isOffer Way.Discovery = false
-isOffer Way.Disabled = false
-isOffer Way.Judge = false
-isOffer Way.Accepting = false
-isOffer Way.Moving = false
-isOffer Way.Telling = false
-isOffer Way.Ready = false
-isOffer Way.Declining = false
-isOffer Way.Refusing = false
-isOffer Way.Waiting = false
-isOffer Way.Soft = false
-isOffer Way.Answering = false
-isOffer Way.Hard = false
-isOffer Way.HardHeard = false
-isOffer Way.Default = false
-isOffer Way.Detached = false
-
-abbrev isOffered : Way → Bool
-isOffered Way.Stay = false
-isOffered Way.Offered = true
-isOffered Way.Softened = false
-isOffered Way.Offer = false
-isOffered Way.Discovery = false
-isOffered Way.Disabled = false
-isOffered Way.Judge = false
-isOffered Way.Accepting = false
-isOffered Way.Moving = false
-isOffered Way.Telling = false
-isOffered Way.Ready = false
-isOffered Way.Declining = false
-isOffered Way.Refusing = false
-isOffered Way.Waiting = false
-isOffered Way.Soft = false
-isOffered Way.Answering = false
-isOffered Way.Hard = false
-isOffered Way.HardHeard = false
-isOffered Way.Default = false
-isOffered Way.Detached = false
-
-abbrev isSending : Way → Bool
-isSending Way.Stay = false
-isSending Way.Offered = false
-isSending Way.Softened = false
-isSending Way.Offer = true
-isSending Way.Discovery = false
-isSending Way.Disabled = false
-isSending Way.Judge = false
-isSending Way.Accepting = true
-isSending Way.Moving = false
-isSending Way.Telling = true
-isSending Way.Ready = false
-isSending Way.Declining = true
-isSending Way.Refusing = true
-isSending Way.Waiting = false
-isSending Way.Soft = true
-isSending Way.Answering = true
-isSending Way.Hard = false
-isSending Way.HardHeard = false
-isSending Way.Default = false
-isSending Way.Detached = false
-
 abbrev counted : Bool → Bool → ℕ → ℕ
 counted offer offered n = cond offer (oneOffer n) (cond offered 0 n)
-
-module _ (a : Asked) (p : Port) where
-  count-enters : (w : Way) → enter w a p .port .count ≡ counted (isOffer w) (isOffered w) (p .count)
-  unfolding enter
-  count-enters Way.Stay = refl
-  count-enters Way.Offered = refl
-  count-enters Way.Softened = refl
-  count-enters Way.Offer = refl
-  count-enters Way.Discovery = refl
-  count-enters Way.Disabled = refl
-  count-enters Way.Judge = refl
-  count-enters Way.Accepting = refl
-  count-enters Way.Moving = refl
-  count-enters Way.Telling = refl
-  count-enters Way.Ready = refl
-  count-enters Way.Declining = refl
-  count-enters Way.Refusing = refl
-  count-enters Way.Waiting = refl
-  count-enters Way.Soft = refl
-  count-enters Way.Answering = refl
-  count-enters Way.Hard = refl
-  count-enters Way.HardHeard = refl
-  count-enters Way.Default = refl
-  count-enters Way.Detached = refl
-
-  sends-some : (w : Way) → (ltb 0 (enter w a p .transmit .length) && eqb (enter w a p .port .channel .pending .retries) 0) ≡ isSending w
-  unfolding enter sends controlOf dataOf
-  sends-some Way.Stay = refl
-  sends-some Way.Offered = refl
-  sends-some Way.Softened = refl
-  sends-some Way.Offer = rw (some (p .newest .count)) refl
-  sends-some Way.Discovery = refl
-  sends-some Way.Disabled = refl
-  sends-some Way.Judge = refl
-  sends-some Way.Accepting = refl
-  sends-some Way.Moving = refl
-  sends-some Way.Telling = refl
-  sends-some Way.Ready = refl
-  sends-some Way.Declining = refl
-  sends-some Way.Refusing = refl
-  sends-some Way.Waiting = refl
-  sends-some Way.Soft = refl
-  sends-some Way.Answering = refl
-  sends-some Way.Hard = refl
-  sends-some Way.HardHeard = refl
-  sends-some Way.Default = refl
-  sends-some Way.Detached = refl
 
 made-by : (s : State) (w : Way) → (isSending w && same (Ways.stateAfter s w) State.Offer) ≡ isOffer w
 made-by s Way.Stay = refl
@@ -241,26 +127,12 @@ are-alike true b t = sym (holds b t)
 are-alike false true t = absurd t
 are-alike false false t = refl
 
-abbrev clearing : Stimulus → Bool
-clearing Stimulus.Attach = true
-clearing Stimulus.Detach = true
-clearing Stimulus.HardReset = false
-clearing Stimulus.Acknowledged = false
-clearing Stimulus.Failed = false
-clearing Stimulus.SenderResponse = false
-clearing Stimulus.SourceCapability = false
-clearing Stimulus.PsHardReset = false
-clearing Stimulus.SupplyReady = false
-clearing Stimulus.NewOffer = false
-clearing Stimulus.Yes = false
-clearing Stimulus.No = false
-
 abbrev clearTest : State → Stimulus → Facts → Lead → Bool
 clearTest s e f Refuse = true
 clearTest s e f (To way) =
     implies (pends s (f .pending) && Tables.possible e (f .pending))
     (alike (seenCleared s (f .pending) (Ways.stateAfter (Tables.ruledState e s) way) (Ways.pendingAfter (Tables.ruledPending e (f .pending)) way) (isGivenUp (changeOf s e)))
-    (isOffered way || (isGivenUp (changeOf s e) || clearing e)))
+    (isOffered way || (isGivenUp (changeOf s e) || clears e)))
 
 clear-table : (s : State) (e : Stimulus) (f : Facts) → T (clearTest s e f (leads s e f))
 unfolding leads changeOf
@@ -286,11 +158,11 @@ change-count Change.GivenUp q = refl
 module _ (q : Port) (s : State) (crc : GoodCrc) (t : Timer) (c : Change) (w : Way) (a : Asked) where
   turn-count : turn q s crc t c w a .port .count ≡ counted (isOffer w) (isOffered w) (cond (isGivenUp c) 0 (q .count))
   unfolding turn
-  turn-count = count-enters a (withChange c q) w ∙ rw (change-count c q)
+  turn-count = Ways.goes w a (withChange c q) .count ∙ rw (change-count c q)
 
   some-sent : (ltb 0 (turn q s crc t c w a .actions .transmit .length) && eqb (turn q s crc t c w a .port .channel .pending .retries) 0) ≡ isSending w
   unfolding turn
-  some-sent = sends-some a (withChange c q) w
+  some-sent = Ways.goes w a (withChange c q) .sent
 
   turn-held : turn q s crc t c w a .held ≡ c
   unfolding turn
@@ -311,7 +183,7 @@ module _ (p : Port) (k : Between p) (n : ℕ) (h : p .count ≡ min mostOffers n
   pends-now = first (pends (stateOf p) (pendingIn p)) _ (k .calmly)
 
   pub record Ruled (e : Stimulus) (q : Port) : Type 0 where
-    pub count : q .count ≡ cond (clearing e) 0 (p .count)
+    pub count : q .count ≡ cond (clears e) 0 (p .count)
     pub pending : pendingIn q ≡ Tables.ruledPending e (pendingIn p)
     pub possible : Tables.possible e (pendingIn p) ≡ true
 
@@ -337,7 +209,7 @@ module _ (p : Port) (k : Between p) (n : ℕ) (h : p .count ≡ min mostOffers n
     abbrev end : Answer
     end = turn q (stateOf p) noCrc t change way nothingAsked
 
-    end-cleared : countCleared p end ≡ (isOffered way || (isGivenUp change || clearing e))
+    end-cleared : countCleared p end ≡ (isOffered way || (isGivenUp change || clears e))
     end-cleared =
         let r = ruled c e q t rule in
         rw (led-state p c e q t rule noCrc t change way nothingAsked, turn-pending q (stateOf p) noCrc t change way nothingAsked, r .pending, turn-held q (stateOf p) noCrc t change way nothingAsked)
@@ -350,7 +222,7 @@ module _ (p : Port) (k : Between p) (n : ℕ) (h : p .count ≡ min mostOffers n
     by-rule : end .port .count ≡ min mostOffers (offersAfter n p end)
     by-rule =
         turn-count q (stateOf p) noCrc t change way nothingAsked
-        ∙ rw (ruled c e q t rule .count) (tally (isOffer way) (isOffered way) (isGivenUp change) (clearing e) (p .count) n (not-both way) h)
+        ∙ rw (ruled c e q t rule .count) (tally (isOffer way) (isOffered way) (isGivenUp change) (clears e) (p .count) n (not-both way) h)
         ∙ as-seen n (countCleared p end) _ (offerMade end) _ end-cleared (turn-made q (stateOf p) noCrc t change way nothingAsked)
 
   module _ (f : Heard) (id : ℕ) (soft : Bool) (crc : GoodCrc) (a : Asked) (way : Way) (l : onPacket (stateOf p) f ≡ To way) where

@@ -10,7 +10,6 @@ use Rattle.message.specs.Types as Types
 use Rattle.meaning.specs.declared.Meaning.{Meaning}
 use Rattle.reading.specs.declared.Reading.{Reading}
 use Rattle.reading.specs.Reading.{readOf, partOf}
-use Rattle.offers.specs.declared.Asked.{Asked}
 use Rattle.offers.specs.declared.Offer.{Offer}
 use Rattle.offers.specs.Requests.{asked}
 use Rattle.outgoing.specs.Packets.{noPacket, controlOf}
@@ -18,6 +17,7 @@ use Rattle.channel.specs.declared.Stored.{Stored}
 use Rattle.channel.specs.Channel.{isPending, isRepeat, nextId, mostRetries, fresh, ended, heard as hears, sends}
 use Rattle.channel.specs.Outcomes.{onExpiry}
 use Rattle.power.specs.declared.Change.{Change}
+use Rattle.power.specs.Power.{nothingAsked}
 use Rattle.source.specs.declared.State.{State}
 use Rattle.source.specs.declared.Stimulus.{Stimulus}
 use Rattle.source.specs.declared.Heard.{Heard}
@@ -39,7 +39,9 @@ use Rattle.port.specs.Steps.{turn, happens, failed, byOutcome, nothingDone, res
 use Rattle.port.specs.Packets.{firstObject, meaningIn, heardAs, otherPacket, newPacket, byMeaning, messageOf, packetOf}
 use Rattle.port.specs.Calls.{Call, event, packet, step}
 use Rattle.portclaims.specs.Between.{implies, isReset, Between}
-use Rattle.portclaims.proofs.Truth.{true-not-false, then}
+use Rattle.portclaims.proofs.Groups.{isSending}
+use Rattle.portclaims.proofs.Truth.{true-not-false, then, not-true}
+use Rattle.portclaims.proofs.Ways as Ways
 use Rattle.portclaims.proofs.Led.{at-way, is-same}
 use Rattle.portclaims.proofs.Between.{step-keeps}
 use Rattle.portclaims.proofs.HeldByChange.{heldAfter, held-by-change}
@@ -124,49 +126,7 @@ pub no-retry-survives : (p : Port) → Between p → (c : Call) → stateOf (ste
 no-retry-survives p k c e = step-keeps p k c .reset (ap isReset e)
 
 abbrev isSilent : Way → Bool
-isSilent Way.Stay = true
-isSilent Way.Offered = true
-isSilent Way.Softened = true
-isSilent Way.Offer = false
-isSilent Way.Discovery = true
-isSilent Way.Disabled = true
-isSilent Way.Judge = true
-isSilent Way.Accepting = false
-isSilent Way.Moving = true
-isSilent Way.Telling = false
-isSilent Way.Ready = true
-isSilent Way.Declining = false
-isSilent Way.Refusing = false
-isSilent Way.Waiting = true
-isSilent Way.Soft = false
-isSilent Way.Answering = false
-isSilent Way.Hard = true
-isSilent Way.HardHeard = true
-isSilent Way.Default = true
-isSilent Way.Detached = true
-
-silent : (w : Way) (a : Asked) (p : Port) → isSilent w ≡ true → enter w a p .transmit ≡ noPacket
-unfolding enter
-silent Way.Stay a p e = refl
-silent Way.Offered a p e = refl
-silent Way.Softened a p e = refl
-silent Way.Offer a p e = true-not-false (sym e)
-silent Way.Discovery a p e = refl
-silent Way.Disabled a p e = refl
-silent Way.Judge a p e = refl
-silent Way.Accepting a p e = true-not-false (sym e)
-silent Way.Moving a p e = refl
-silent Way.Telling a p e = true-not-false (sym e)
-silent Way.Ready a p e = refl
-silent Way.Declining a p e = true-not-false (sym e)
-silent Way.Refusing a p e = true-not-false (sym e)
-silent Way.Waiting a p e = refl
-silent Way.Soft a p e = true-not-false (sym e)
-silent Way.Answering a p e = true-not-false (sym e)
-silent Way.Hard a p e = refl
-silent Way.HardHeard a p e = refl
-silent Way.Default a p e = refl
-silent Way.Detached a p e = refl
+isSilent w = not (isSending w)
 
 abbrev hardTest : State → Lead → Bool
 hardTest s Refuse = true
@@ -183,7 +143,7 @@ module _ (p : Port) (k : Between p) (hard : stateOf p ≡ State.Hard) where
   by-shape c a (idle d u crc) = refl
   by-shape c a (again d u on few) = true-not-false (sym on ∙ ap isPending (k .reset (ap isReset hard)))
   by-shape c a (led d e q t way rule l) =
-      silent way _ _ (then (same (stateOf p) State.Hard) (isSilent way) (at-way (hardTest (stateOf p)) (leads (stateOf p) e (factsOf p)) way l (hard-is-silent (stateOf p) e (factsOf p))) (is-same (stateOf p) State.Hard hard refl))
+      Ways.goes way nothingAsked _ .quiet (not-true (isSending way) (then (same (stateOf p) State.Hard) (isSilent way) (at-way (hardTest (stateOf p)) (leads (stateOf p) e (factsOf p)) way l (hard-is-silent (stateOf p) e (factsOf p))) (is-same (stateOf p) State.Hard hard refl)))
   by-shape c a (heard s n f m way new l) = true-not-false (sym (new .listening) ∙ ap listens hard)
 
   -- THE CLAIM: and while it is there, nothing is sent, whatever comes

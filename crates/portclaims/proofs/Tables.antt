@@ -1,5 +1,6 @@
 -- What the state tables keep, as tests that the checker computes over every state, stimulus and packet. Assumes nothing.
-use mathlib.Core.Bool.{Bool, true, false, not, _&&_}
+use mathlib.Core.Bool.{Bool, true, false, not, cond, _&&_, _||_}
+use mathlib.Core.List.{[], _∷_}
 use lib.Dec.{T}
 use Rattle.ground.proofs.Rows.{both}
 use Rattle.power.specs.declared.Change.{Change}
@@ -17,79 +18,25 @@ use Rattle.source.specs.Packets.{onPacket}
 use Rattle.source.specs.Changes.{changeOf}
 use Rattle.source.proofs.Finite.{everywhere, at-packets}
 use Rattle.portclaims.specs.Between.{implies, calm, inBetween, isReset}
+use Rattle.portclaims.proofs.Groups.{oneWayOf, oneStimulusOf, clears, ends}
 use Rattle.portclaims.proofs.Ways.{stateAfter, pendingAfter, goneOutAfter, madeAfter}
 
 -- what the protocol rules make of the four facts before the state leads on
 abbrev pub ruledState : Stimulus → State → State
-ruledState Stimulus.Attach s = State.Detached
-ruledState Stimulus.Detach s = State.Detached
-ruledState Stimulus.HardReset s = s
-ruledState Stimulus.Acknowledged s = s
-ruledState Stimulus.Failed s = s
-ruledState Stimulus.SenderResponse s = s
-ruledState Stimulus.SourceCapability s = s
-ruledState Stimulus.PsHardReset s = s
-ruledState Stimulus.SupplyReady s = s
-ruledState Stimulus.NewOffer s = s
-ruledState Stimulus.Yes s = s
-ruledState Stimulus.No s = s
+ruledState e s = cond (clears e) State.Detached s
 
 abbrev pub ruledPending : Stimulus → Bool → Bool
-ruledPending Stimulus.Attach b = false
-ruledPending Stimulus.Detach b = false
-ruledPending Stimulus.HardReset b = b
-ruledPending Stimulus.Acknowledged b = false
-ruledPending Stimulus.Failed b = false
-ruledPending Stimulus.SenderResponse b = b
-ruledPending Stimulus.SourceCapability b = b
-ruledPending Stimulus.PsHardReset b = b
-ruledPending Stimulus.SupplyReady b = b
-ruledPending Stimulus.NewOffer b = b
-ruledPending Stimulus.Yes b = b
-ruledPending Stimulus.No b = b
+ruledPending e b = cond (clears e || ends e) false b
 
 abbrev pub ruledGoneOut : Stimulus → Bool → Bool
-ruledGoneOut Stimulus.Attach b = false
-ruledGoneOut Stimulus.Detach b = false
-ruledGoneOut Stimulus.HardReset b = b
-ruledGoneOut Stimulus.Acknowledged b = b
-ruledGoneOut Stimulus.Failed b = b
-ruledGoneOut Stimulus.SenderResponse b = b
-ruledGoneOut Stimulus.SourceCapability b = b
-ruledGoneOut Stimulus.PsHardReset b = b
-ruledGoneOut Stimulus.SupplyReady b = b
-ruledGoneOut Stimulus.NewOffer b = false
-ruledGoneOut Stimulus.Yes b = b
-ruledGoneOut Stimulus.No b = b
+ruledGoneOut e b = cond (oneStimulusOf (Stimulus.Attach ∷ Stimulus.Detach ∷ Stimulus.NewOffer ∷ []) e) false b
 
 abbrev pub ruledMade : Stimulus → Bool → Bool
-ruledMade Stimulus.Attach b = false
-ruledMade Stimulus.Detach b = false
-ruledMade Stimulus.HardReset b = b
-ruledMade Stimulus.Acknowledged b = b
-ruledMade Stimulus.Failed b = b
-ruledMade Stimulus.SenderResponse b = b
-ruledMade Stimulus.SourceCapability b = b
-ruledMade Stimulus.PsHardReset b = b
-ruledMade Stimulus.SupplyReady b = b
-ruledMade Stimulus.NewOffer b = b
-ruledMade Stimulus.Yes b = b
-ruledMade Stimulus.No b = b
+ruledMade e b = cond (clears e) false b
 
 -- a message is acknowledged or fails only where one is pending
 abbrev pub possible : Stimulus → Bool → Bool
-possible Stimulus.Attach b = true
-possible Stimulus.Detach b = true
-possible Stimulus.HardReset b = true
-possible Stimulus.Acknowledged b = b
-possible Stimulus.Failed b = b
-possible Stimulus.SenderResponse b = true
-possible Stimulus.SourceCapability b = true
-possible Stimulus.PsHardReset b = true
-possible Stimulus.SupplyReady b = true
-possible Stimulus.NewOffer b = true
-possible Stimulus.Yes b = true
-possible Stimulus.No b = true
+possible e b = cond (ends e) b true
 
 abbrev pub madeBy : Standing → Bool
 madeBy Standing.NoContract = false
@@ -111,26 +58,7 @@ calm-kept = everywhere (λ s e f. calmTest s e f (leads s e f)) tt
 
 -- ---- where the channel is as at attach, and what is held there
 abbrev pub isDeafWay : Way → Bool
-isDeafWay Way.Stay = false
-isDeafWay Way.Offered = false
-isDeafWay Way.Softened = false
-isDeafWay Way.Offer = false
-isDeafWay Way.Discovery = false
-isDeafWay Way.Disabled = false
-isDeafWay Way.Judge = false
-isDeafWay Way.Accepting = false
-isDeafWay Way.Moving = false
-isDeafWay Way.Telling = false
-isDeafWay Way.Ready = false
-isDeafWay Way.Declining = false
-isDeafWay Way.Refusing = false
-isDeafWay Way.Waiting = false
-isDeafWay Way.Soft = false
-isDeafWay Way.Answering = false
-isDeafWay Way.Hard = false
-isDeafWay Way.HardHeard = false
-isDeafWay Way.Default = true
-isDeafWay Way.Detached = true
+isDeafWay w = oneWayOf (Way.Default ∷ Way.Detached ∷ []) w
 
 abbrev pub byChange : Change → Bool → Bool → Bool
 byChange Change.Nothing before after = implies (not after) (not before)

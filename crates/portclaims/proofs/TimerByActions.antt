@@ -2,7 +2,7 @@
 use Prim.Native.Nat.{ℕ}
 use mathlib.Core.Path.{_≡_, refl, sym}
 use mathlib.Core.Bool.{Bool, true, false, cond, _&&_}
-use mathlib.Core.List.{List}
+use mathlib.Core.List.{List, [], _∷_}
 use lib.Dec.{T, eqb}
 use Rattle.ground.specs.declared.Verdict.{Verdict}
 use Rattle.ground.specs.declared.Verdict.the-variants.{Fine, Refused}
@@ -28,11 +28,11 @@ use Rattle.port.specs.declared.GoodCrc.{GoodCrc}
 use Rattle.port.specs.declared.Port.{Port}
 use Rattle.port.specs.declared.Answer.{Answer}
 use Rattle.port.specs.Memory.{stateOf, pendingIn, factsOf, runningIn, noCrc}
-use Rattle.port.specs.Entering.{enter}
 use Rattle.port.specs.Steps.{withChange, turn, nothingDone, resent}
 use Rattle.port.specs.Packets.{heardAs, askedBy, isSoftReset, crcFor, hearing}
 use Rattle.port.specs.Calls.{Call, packet, step}
 use Rattle.portclaims.specs.Between.{implies, pends, Between}
+use Rattle.portclaims.proofs.Groups.{oneStimulusOf}
 use Rattle.portclaims.proofs.Truth.{true-not-false, then, and, first}
 use Rattle.portclaims.proofs.Ways as Ways
 use Rattle.portclaims.proofs.Tables as Tables
@@ -59,65 +59,8 @@ isFine (Refused r) = false
 abbrev pub timerAfter : Timer → Call → Answer → Timer
 timerAfter t c a = begun (a .actions .start) (halted (a .actions .stop) (cond (isExpiry c && isFine (a .verdict)) NoTimer t))
 
--- ---- what a way starts
-abbrev startOf : Way → Timer
-startOf Way.Stay = NoTimer
-startOf Way.Offered = SenderResponse
-startOf Way.Softened = SenderResponse
-startOf Way.Offer = NoTimer
-startOf Way.Discovery = SourceCapability
-startOf Way.Disabled = NoTimer
-startOf Way.Judge = NoTimer
-startOf Way.Accepting = NoTimer
-startOf Way.Moving = NoTimer
-startOf Way.Telling = NoTimer
-startOf Way.Ready = NoTimer
-startOf Way.Declining = NoTimer
-startOf Way.Refusing = NoTimer
-startOf Way.Waiting = NoTimer
-startOf Way.Soft = NoTimer
-startOf Way.Answering = NoTimer
-startOf Way.Hard = PsHardReset
-startOf Way.HardHeard = PsHardReset
-startOf Way.Default = NoTimer
-startOf Way.Detached = NoTimer
-
-starts : (w : Way) (a : Asked) (p : Port) → enter w a p .start ≡ startOf w
-unfolding enter
-starts Way.Stay a p = refl
-starts Way.Offered a p = refl
-starts Way.Softened a p = refl
-starts Way.Offer a p = refl
-starts Way.Discovery a p = refl
-starts Way.Disabled a p = refl
-starts Way.Judge a p = refl
-starts Way.Accepting a p = refl
-starts Way.Moving a p = refl
-starts Way.Telling a p = refl
-starts Way.Ready a p = refl
-starts Way.Declining a p = refl
-starts Way.Refusing a p = refl
-starts Way.Waiting a p = refl
-starts Way.Soft a p = refl
-starts Way.Answering a p = refl
-starts Way.Hard a p = refl
-starts Way.HardHeard a p = refl
-starts Way.Default a p = refl
-starts Way.Detached a p = refl
-
 abbrev expiring : Stimulus → Bool
-expiring Stimulus.Attach = false
-expiring Stimulus.Detach = false
-expiring Stimulus.HardReset = false
-expiring Stimulus.Acknowledged = false
-expiring Stimulus.Failed = false
-expiring Stimulus.SenderResponse = true
-expiring Stimulus.SourceCapability = true
-expiring Stimulus.PsHardReset = true
-expiring Stimulus.SupplyReady = false
-expiring Stimulus.NewOffer = false
-expiring Stimulus.Yes = false
-expiring Stimulus.No = false
+expiring e = oneStimulusOf (Stimulus.SenderResponse ∷ Stimulus.SourceCapability ∷ Stimulus.PsHardReset ∷ []) e
 
 abbrev codeOf : Timer → ℕ
 codeOf NoTimer = 0
@@ -154,7 +97,7 @@ timerTest s e f Refuse = true
 timerTest s e f (To way) =
     implies (pends s (f .pending) && Tables.possible e (f .pending))
     (alike (running (Ways.stateAfter (Tables.ruledState e s) way) (Ways.pendingAfter (Tables.ruledPending e (f .pending)) way))
-    (begun (startOf way)
+    (begun (Ways.startOf way)
     (halted (stopped s (Ways.stateAfter (Tables.ruledState e s) way) (before (expiring e) (running s (f .pending)))) (before (expiring e) (running s (f .pending))))))
 
 timer-table : (s : State) (e : Stimulus) (f : Facts) → T (timerTest s e f (leads s e f))
@@ -165,16 +108,16 @@ abbrev packetTest : State → Bool → Lead → Bool
 packetTest s pending Refuse = true
 packetTest s pending (To way) =
     implies (pends s pending)
-    (alike (running (Ways.stateAfter s way) (Ways.pendingAfter false way)) (begun (startOf way) (halted (stopped s (Ways.stateAfter s way) (running s pending)) (running s pending))))
+    (alike (running (Ways.stateAfter s way) (Ways.pendingAfter false way)) (begun (Ways.startOf way) (halted (stopped s (Ways.stateAfter s way) (running s pending)) (running s pending))))
 
 packet-table : (s : State) (h : Heard) (pending : Bool) → T (packetTest s pending (onPacket s h))
 unfolding onPacket
 packet-table s h true = at-packets (λ s h. packetTest s true (onPacket s h)) tt s h
 packet-table s h false = at-packets (λ s h. packetTest s false (onPacket s h)) tt s h
 
-turn-start : (q : Port) (s : State) (crc : GoodCrc) (t : Timer) (c : Change) (w : Way) (a : Asked) → turn q s crc t c w a .actions .start ≡ startOf w
+turn-start : (q : Port) (s : State) (crc : GoodCrc) (t : Timer) (c : Change) (w : Way) (a : Asked) → turn q s crc t c w a .actions .start ≡ Ways.startOf w
 unfolding turn
-turn-start q s crc t c w a = starts w a (withChange c q)
+turn-start q s crc t c w a = Ways.goes w a (withChange c q) .start
 
 turn-stop : (q : Port) (s : State) (crc : GoodCrc) (t : Timer) (c : Change) (w : Way) (a : Asked) → turn q s crc t c w a .actions .stop ≡ stopped s (stateOf (turn q s crc t c w a .port)) t
 unfolding turn
