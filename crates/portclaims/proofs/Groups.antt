@@ -69,3 +69,7 @@ clears e = oneStimulusOf (Stimulus.Attach ∷ Stimulus.Detach ∷ []) e
 
 abbrev pub ends : Stimulus → Bool
 ends e = oneStimulusOf (Stimulus.Acknowledged ∷ Stimulus.Failed ∷ []) e
+
+-- those that are the expiry of a timer that is started and stopped
+abbrev pub expiring : Stimulus → Bool
+expiring e = oneStimulusOf (Stimulus.SenderResponse ∷ Stimulus.SourceCapability ∷ Stimulus.PsHardReset ∷ []) e

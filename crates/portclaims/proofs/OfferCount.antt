@@ -9,7 +9,7 @@ use mathlib.Core.List.{List, [], _∷_}
 use lib.Dec.{T, ltb, leb, eqb, nltb→le}
 use Rattle.offers.specs.declared.Asked.{Asked}
 use Rattle.offers.specs.declared.Offer.{Offer}
-use Rattle.channel.specs.Channel.{mostRetries, ended, again as once-again, heard as hears}
+use Rattle.channel.specs.Channel.{mostRetries, again as once-again, heard as hears}
 use Rattle.power.specs.declared.Change.{Change}
 use Rattle.power.specs.Power.{nothingAsked}
 use Rattle.source.specs.declared.State.{State}
@@ -39,9 +39,9 @@ use Rattle.portclaims.proofs.Groups.{isSending, isOffer, isOffered, cle
 use Rattle.portclaims.proofs.Truth.{so, holds, true-not-false, then, and, first, second, not-true, below}
 use Rattle.portclaims.proofs.Ways as Ways
 use Rattle.portclaims.proofs.Tables as Tables
-use Rattle.portclaims.proofs.Led.{turn-state, turn-pending, led-state, at-way, is-same}
+use Rattle.portclaims.proofs.Led.{ruled, turn-state, turn-pending, led-state, at-way, is-same}
 use Rattle.portclaims.proofs.Between.{step-keeps, at-first}
-use Rattle.portclaims.proofs.Shapes.{Rule, by-attach, by-detach, by-hard-reset, by-acknowledgement, by-failure, by-sender-response, by-source-capability, by-ps-hard-reset, by-supply-ready, by-yes, by-no, by-offer, fitIn, Shape, refused, idle, again as sent-again, led, heard, shape}
+use Rattle.portclaims.proofs.Shapes.{Rule, fitIn, Shape, refused, idle, again as sent-again, led, heard, shape}
 
 -- ---- what a way does to the count, and to what goes out
 abbrev counted : Bool → Bool → ℕ → ℕ
@@ -182,26 +182,6 @@ module _ (p : Port) (k : Between p) (n : ℕ) (h : p .count ≡ min mostOffers n
   pends-now : pends (stateOf p) (pendingIn p) ≡ true
   pends-now = first (pends (stateOf p) (pendingIn p)) _ (k .calmly)
 
-  pub record Ruled (e : Stimulus) (q : Port) : Type 0 where
-    pub count : q .count ≡ cond (clears e) 0 (p .count)
-    pub pending : pendingIn q ≡ Tables.ruledPending e (pendingIn p)
-    pub possible : Tables.possible e (pendingIn p) ≡ true
-
-  ruled : (c : Call) (e : Stimulus) (q : Port) (t : Timer) → Rule p c e q t → Ruled e q
-  unfolding ended
-  ruled c e q t by-attach = record { count = refl; pending = refl; possible = refl }
-  ruled c e q t by-detach = record { count = refl; pending = refl; possible = refl }
-  ruled c e q t by-hard-reset = record { count = refl; pending = refl; possible = refl }
-  ruled c e q t (by-acknowledgement d u on) = record { count = refl; pending = refl; possible = on }
-  ruled c e q t (by-failure d u on) = record { count = refl; pending = refl; possible = on }
-  ruled c e q t by-sender-response = record { count = refl; pending = refl; possible = refl }
-  ruled c e q t by-source-capability = record { count = refl; pending = refl; possible = refl }
-  ruled c e q t by-ps-hard-reset = record { count = refl; pending = refl; possible = refl }
-  ruled c e q t by-supply-ready = record { count = refl; pending = refl; possible = refl }
-  ruled c e q t (by-offer limit o good) = record { count = refl; pending = refl; possible = refl }
-  ruled c e q t by-yes = record { count = refl; pending = refl; possible = refl }
-  ruled c e q t by-no = record { count = refl; pending = refl; possible = refl }
-
   module _ (c : Call) (e : Stimulus) (q : Port) (t : Timer) (rule : Rule p c e q t) (way : Way) (l : leads (stateOf p) e (factsOf p) ≡ To way) where
     abbrev change : Change
     change = changeOf (stateOf p) e
@@ -211,7 +191,7 @@ module _ (p : Port) (k : Between p) (n : ℕ) (h : p .count ≡ min mostOffers n
 
     end-cleared : countCleared p end ≡ (isOffered way || (isGivenUp change || clears e))
     end-cleared =
-        let r = ruled c e q t rule in
+        let r = ruled p c e q t rule in
         rw (led-state p c e q t rule noCrc t change way nothingAsked, turn-pending q (stateOf p) noCrc t change way nothingAsked, r .pending, turn-held q (stateOf p) noCrc t change way nothingAsked)
         (are-alike _ _
         (so _
@@ -222,7 +202,7 @@ module _ (p : Port) (k : Between p) (n : ℕ) (h : p .count ≡ min mostOffers n
     by-rule : end .port .count ≡ min mostOffers (offersAfter n p end)
     by-rule =
         turn-count q (stateOf p) noCrc t change way nothingAsked
-        ∙ rw (ruled c e q t rule .count) (tally (isOffer way) (isOffered way) (isGivenUp change) (clears e) (p .count) n (not-both way) h)
+        ∙ rw (ruled p c e q t rule .count) (tally (isOffer way) (isOffered way) (isGivenUp change) (clears e) (p .count) n (not-both way) h)
         ∙ as-seen n (countCleared p end) _ (offerMade end) _ end-cleared (turn-made q (stateOf p) noCrc t change way nothingAsked)
 
   module _ (f : Heard) (id : ℕ) (soft : Bool) (crc : GoodCrc) (a : Asked) (way : Way) (l : onPacket (stateOf p) f ≡ To way) where

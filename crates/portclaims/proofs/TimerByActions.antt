@@ -2,12 +2,12 @@
 use Prim.Native.Nat.{ℕ}
 use mathlib.Core.Path.{_≡_, refl, sym}
 use mathlib.Core.Bool.{Bool, true, false, cond, _&&_}
-use mathlib.Core.List.{List, [], _∷_}
+use mathlib.Core.List.{List}
 use lib.Dec.{T, eqb}
 use Rattle.ground.specs.declared.Verdict.{Verdict}
 use Rattle.ground.specs.declared.Verdict.the-variants.{Fine, Refused}
 use Rattle.offers.specs.declared.Asked.{Asked}
-use Rattle.channel.specs.Channel.{ended, again as once-again, heard as hears}
+use Rattle.channel.specs.Channel.{again as once-again, heard as hears}
 use Rattle.power.specs.declared.Change.{Change}
 use Rattle.power.specs.Power.{nothingAsked}
 use Rattle.source.specs.declared.State.{State}
@@ -32,12 +32,12 @@ use Rattle.port.specs.Steps.{withChange, turn, nothingDone, resent}
 use Rattle.port.specs.Packets.{heardAs, askedBy, isSoftReset, crcFor, hearing}
 use Rattle.port.specs.Calls.{Call, packet, step}
 use Rattle.portclaims.specs.Between.{implies, pends, Between}
-use Rattle.portclaims.proofs.Groups.{oneStimulusOf}
+use Rattle.portclaims.proofs.Groups.{expiring}
 use Rattle.portclaims.proofs.Truth.{true-not-false, then, and, first}
 use Rattle.portclaims.proofs.Ways as Ways
 use Rattle.portclaims.proofs.Tables as Tables
-use Rattle.portclaims.proofs.Led.{turn-state, turn-pending, led-state, at-way}
-use Rattle.portclaims.proofs.Shapes.{Rule, by-attach, by-detach, by-hard-reset, by-acknowledgement, by-failure, by-sender-response, by-source-capability, by-ps-hard-reset, by-supply-ready, by-yes, by-no, by-offer, fitIn, isExpiry, Shape, refused, idle, again as sent-again, led, heard, shape}
+use Rattle.portclaims.proofs.Led.{ruled, turn-state, turn-pending, led-state, at-way}
+use Rattle.portclaims.proofs.Shapes.{Rule, fitIn, isExpiry, Shape, refused, idle, again as sent-again, led, heard, shape}
 
 -- ---- the timer by what was done: one that expired or was stopped no longer runs, one that was started does
 abbrev begun : Timer → Timer → Timer
@@ -58,9 +58,6 @@ isFine (Refused r) = false
 
 abbrev pub timerAfter : Timer → Call → Answer → Timer
 timerAfter t c a = begun (a .actions .start) (halted (a .actions .stop) (cond (isExpiry c && isFine (a .verdict)) NoTimer t))
-
-abbrev expiring : Stimulus → Bool
-expiring e = oneStimulusOf (Stimulus.SenderResponse ∷ Stimulus.SourceCapability ∷ Stimulus.PsHardReset ∷ []) e
 
 abbrev codeOf : Timer → ℕ
 codeOf NoTimer = 0
@@ -143,32 +140,10 @@ module _ (p : Port) (k : Between p) where
   pends-now : pends (stateOf p) (pendingIn p) ≡ true
   pends-now = first (pends (stateOf p) (pendingIn p)) _ (k .calmly)
 
-  -- what a rule says of the call, the timer that still runs and what is pending
-  pub record Ruled (c : Call) (e : Stimulus) (q : Port) (t : Timer) : Type 0 where
-    pub expiry : isExpiry c ≡ expiring e
-    pub runs : t ≡ before (expiring e) (runningIn p)
-    pub pending : pendingIn q ≡ Tables.ruledPending e (pendingIn p)
-    pub possible : Tables.possible e (pendingIn p) ≡ true
-
-  ruled : (c : Call) (e : Stimulus) (q : Port) (t : Timer) → Rule p c e q t → Ruled c e q t
-  unfolding ended
-  ruled c e q t by-attach = record { expiry = refl; runs = refl; pending = refl; possible = refl }
-  ruled c e q t by-detach = record { expiry = refl; runs = refl; pending = refl; possible = refl }
-  ruled c e q t by-hard-reset = record { expiry = refl; runs = refl; pending = refl; possible = refl }
-  ruled c e q t (by-acknowledgement d u on) = record { expiry = u; runs = refl; pending = refl; possible = on }
-  ruled c e q t (by-failure d u on) = record { expiry = u; runs = refl; pending = refl; possible = on }
-  ruled c e q t by-sender-response = record { expiry = refl; runs = refl; pending = refl; possible = refl }
-  ruled c e q t by-source-capability = record { expiry = refl; runs = refl; pending = refl; possible = refl }
-  ruled c e q t by-ps-hard-reset = record { expiry = refl; runs = refl; pending = refl; possible = refl }
-  ruled c e q t by-supply-ready = record { expiry = refl; runs = refl; pending = refl; possible = refl }
-  ruled c e q t (by-offer limit o good) = record { expiry = refl; runs = refl; pending = refl; possible = refl }
-  ruled c e q t by-yes = record { expiry = refl; runs = refl; pending = refl; possible = refl }
-  ruled c e q t by-no = record { expiry = refl; runs = refl; pending = refl; possible = refl }
-
   by-rule : (c : Call) (e : Stimulus) (q : Port) (t : Timer) → Rule p c e q t → (way : Way) → leads (stateOf p) e (factsOf p) ≡ To way →
       runningIn (turn q (stateOf p) noCrc t (changeOf (stateOf p) e) way nothingAsked .port) ≡ timerAfter (runningIn p) c (turn q (stateOf p) noCrc t (changeOf (stateOf p) e) way nothingAsked)
   by-rule c e q t rule way l =
-      let r = ruled c e q t rule in
+      let r = ruled p c e q t rule in
       let end = led-state p c e q t rule noCrc t (changeOf (stateOf p) e) way nothingAsked in
       rw
       (turn-fine q (stateOf p) noCrc t (changeOf (stateOf p) e) way nothingAsked, turn-start q (stateOf p) noCrc t (changeOf (stateOf p) e) way nothingAsked, turn-stop q (stateOf p) noCrc t (changeOf (stateOf p) e) way nothingAsked, end, turn-pending q (stateOf p) noCrc t (changeOf (stateOf p) e) way nothingAsked, r .pending, r .expiry, and-true (expiring e), r .runs)
