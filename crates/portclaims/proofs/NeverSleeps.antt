@@ -19,6 +19,7 @@ use Rattle.source.specs.declared.Timer.{Timer}
 use Rattle.source.specs.declared.Timer.the-variants.{NoTimer, SenderResponse, SourceCapability, PsHardReset}
 use Rattle.source.specs.States.{same, listens, running}
 use Rattle.source.specs.Leads.{leads}
+use Rattle.source.specs.Packets.{onPacket}
 use Rattle.source.specs.Changes.{changeOf}
 use Rattle.source.proofs.Finite.{state}
 use Rattle.port.specs.declared.Port.{Port}
@@ -27,9 +28,10 @@ use Rattle.port.specs.declared.Supply.the-variants.{Position}
 use Rattle.port.specs.Memory.{stateOf, pendingIn, mostOffers}
 use Rattle.port.specs.Entering.{enter}
 use Rattle.port.specs.Steps.{turn, happens, acknowledged, failed, resent, byOutcome, eventOf}
-use Rattle.port.specs.Packets.{meaningIn, goodCrcHeard, byMeaning, messageOf, packetOf}
+use Rattle.port.specs.Packets.{meaningIn, heardAs, otherPacket, newPacket, goodCrcHeard, byMeaning, messageOf, packetOf}
 use Rattle.port.specs.Calls.{event, packet, step}
 use Rattle.portclaims.specs.Between.{implies, pends, Between}
+use Rattle.portclaims.proofs.Shapes.{New}
 use Rattle.portclaims.proofs.Truth.{then, and, first}
 
 -- ---- what a port waits for
@@ -149,3 +151,12 @@ module _ (p : Port) where
   pub hard-reset-heard : listens (stateOf p) ≡ true → (stateOf (step p (event Event.HardReset) .port) ≡ State.Hard) × (step p (event Event.HardReset) .actions .«hard_reset» ≡ false)
   unfolding step eventOf happens leads changeOf turn enter
   hard-reset-heard l = rw l (refl, refl)
+
+  -- ---- at rest: a receiver asks for the offer (and in Ready for power: AcceptExactly)
+  pub asked-in-ready : (s : List ℕ) (n : ℕ) (f : Fields) → New p s n f Meaning.GetSourceCap → stateOf p ≡ State.Ready → stateOf (step p (packet s) .port) ≡ State.Offer
+  unfolding step packetOf messageOf byMeaning otherPacket newPacket heardAs onPacket turn enter
+  asked-in-ready s n f k r = rw (k .read, k .meaning, k .fresh, r) refl
+
+  pub asked-in-waiting : (s : List ℕ) (n : ℕ) (f : Fields) → New p s n f Meaning.GetSourceCap → stateOf p ≡ State.Waiting → stateOf (step p (packet s) .port) ≡ State.Offer
+  unfolding step packetOf messageOf byMeaning otherPacket newPacket heardAs onPacket turn enter
+  asked-in-waiting s n f k r = rw (k .read, k .meaning, k .fresh, r) refl

@@ -10,6 +10,7 @@ use Rattle.ground.specs.declared.Verdict.the-variants.{Refused}
 use Rattle.ground.specs.Refusals.{refuseIf}
 use Rattle.message.specs.Header.{fieldsOf, objectsOf, headerOf}
 use Rattle.message.specs.Bytes.{wordOf, isChunked, bytesOf}
+use Rattle.message.specs.declared.Fields.{Fields}
 use Rattle.meaning.specs.declared.Meaning.{Meaning}
 use Rattle.meaning.specs.Meaning.{meaningOf}
 use Rattle.reading.specs.declared.Reading.{Reading}
@@ -36,6 +37,7 @@ use Rattle.port.specs.Entering.{enter}
 use Rattle.port.specs.Steps.{turn, happens, acknowledged, failed, resent, byOutcome, nothingDone, eventOf, newOfferOf}
 use Rattle.port.specs.Packets.{firstObject, meaningIn, heardAs, newPacket, otherPacket, goodCrcHeard, byMeaning, messageOf, packetOf}
 use Rattle.port.specs.Calls.{Call, event, packet, newOffer, step, run}
+use Rattle.portclaims.proofs.Shapes.{New}
 use Rattle.portclaims.proofs.AcceptExactly.{FittingRequest}
 use Rattle.portclaims.proofs.RepeatChangesNothing.{aside}
 use Rattle.portclaims.proofs.SlipsOfTheOldFirmware.{answersSoftReset}
@@ -252,3 +254,30 @@ pub three-standings :
     × (at inTelling .«gone_out» ≡ true)
 unfolding at step eventOf packetOf readOf readingTried refuseIf wordOf fieldsOf objectsOf partOf isChunked messageOf meaningIn meaningOf byMeaning otherPacket newPacket goodCrcHeard byOutcome onGoodCrc onExpiry pendingId isRepeat acknowledged failed resent nothingDone happens leads onPacket changeOf heardAs firstObject fitOf fits asked objectAt turn enter changed standingOf isHonoured ended again heard sends controlOf dataOf headerOf bytesOf newOfferOf goodOffer goodFrom goodObject
 three-standings = (refl, refl, refl, refl, refl)
+
+-- Soft once its Soft_Reset is acknowledged; newest offers that have gone out; and the GoodCRC of a pending offer
+pub further-conditions :
+    (stateOf (at (inSoft ++ (packet goodCrc0 ∷ []))) ≡ State.Soft)
+    × (pendingIn (at (inSoft ++ (packet goodCrc0 ∷ []))) ≡ false)
+    × (at inDeclining .«gone_out» ≡ true)
+    × (at inRefusing .«gone_out» ≡ true)
+    × (at inRefusingWithContract .«gone_out» ≡ true)
+    × (readOf goodCrc0 ≡ Reading.Message 0 (record { extended = false; «message_id» = 0; «power_role» = 0; revision = 2; «data_role» = 0; «message_type» = 1 }))
+    × (meaningIn 0 (record { extended = false; «message_id» = 0; «power_role» = 0; revision = 2; «data_role» = 0; «message_type» = 1 }) ≡ Meaning.GoodCrc)
+unfolding at step eventOf packetOf readOf readingTried refuseIf wordOf fieldsOf objectsOf partOf isChunked messageOf meaningIn meaningOf byMeaning otherPacket newPacket goodCrcHeard byOutcome onGoodCrc onExpiry pendingId isRepeat acknowledged failed resent nothingDone happens leads onPacket changeOf heardAs firstObject fitOf fits asked objectAt turn enter changed standingOf isHonoured ended again heard sends controlOf dataOf headerOf bytesOf newOfferOf goodOffer goodFrom goodObject
+further-conditions = (refl, refl, refl, refl, refl, refl, refl)
+
+-- a Get_Source_Cap that is new, in Ready and in Waiting
+abbrev getSourceCap1 : List ℕ
+getSourceCap1 = 0x87 ∷ 0x02 ∷ []
+
+abbrev asksForOffer : Fields
+asksForOffer = record { extended = false; «message_id» = 1; «power_role» = 0; revision = 2; «data_role» = 0; «message_type» = 7 }
+
+pub asked-in-ready : New ready getSourceCap1 0 asksForOffer Meaning.GetSourceCap
+unfolding at step eventOf packetOf readOf readingTried refuseIf wordOf fieldsOf objectsOf partOf isChunked messageOf meaningIn meaningOf byMeaning otherPacket newPacket goodCrcHeard byOutcome onGoodCrc onExpiry pendingId isRepeat acknowledged failed resent nothingDone happens leads onPacket changeOf heardAs firstObject fitOf fits asked objectAt turn enter changed standingOf isHonoured ended again heard sends controlOf dataOf headerOf bytesOf newOfferOf goodOffer goodFrom goodObject
+asked-in-ready = record { read = refl; listening = refl; meaning = refl; fresh = refl }
+
+pub asked-in-waiting : New (at (inRefusing ++ (packet goodCrc1 ∷ []))) getSourceCap1 0 asksForOffer Meaning.GetSourceCap
+unfolding at step eventOf packetOf readOf readingTried refuseIf wordOf fieldsOf objectsOf partOf isChunked messageOf meaningIn meaningOf byMeaning otherPacket newPacket goodCrcHeard byOutcome onGoodCrc onExpiry pendingId isRepeat acknowledged failed resent nothingDone happens leads onPacket changeOf heardAs firstObject fitOf fits asked objectAt turn enter changed standingOf isHonoured ended again heard sends controlOf dataOf headerOf bytesOf newOfferOf goodOffer goodFrom goodObject
+asked-in-waiting = record { read = refl; listening = refl; meaning = refl; fresh = refl }
