@@ -1,4 +1,5 @@
 use borrow.Author.Needs.{needs}
+use mathlib.Core.Path.{_∙_}
 use Rattle.port.specs.Packets.{packetOf}
 use Rattle.port.proofs.Port.packet.Statement.{statement}
 use Rattle.port.proofs.Port.packet.Tie as tie
@@ -16,5 +17,5 @@ packet-spec =
     (λ c κs. search needs)
     (λ c. search needs)
     (λ c κs. search needs)
-    (λ c. rw (← c .before .before .before .before .before .before .before .read .ensures, c .before .before .before .before .before .r .given .1, ← c .before .before .before .objects .ensures .bytes, ← c .before .before .first-object .ensures, ← c .before .judge .ensures) (c .message .ensures))
+    (λ c. c .message .ensures ∙ rw (c .before .judge .ensures, c .before .before .first-object .ensures, c .before .before .before .objects .ensures .bytes, ← c .before .before .before .before .before .before .before .read .ensures, c .before .before .before .before .before .r .given .1))
     (λ c. rw (← c .before .before .before .before .read .ensures, c .before .before .r2 .given .1) (c .refused .ensures)))
