@@ -3,7 +3,7 @@ use Prim.Native.Nat.{ℕ}
 use mathlib.Core.Bool.{Bool, true, false, _||_}
 use mathlib.Core.List.{List, [], _∷_}
 use Rattle.ground.specs.declared.Refusal.{Refusal}
-use Rattle.ground.specs.declared.Refusal.the-variants.{TooShort, TooLong, WrongLength, NotChunked, NoRoom, OutOfRange, BadOffer, NotAwaited}
+use Rattle.ground.specs.declared.Refusal.the-variants.{TooShort, TooLong, WrongLength, NotChunked, NoRoom, OutOfRange, BadOffer, NotAwaited, NotInRack, BadSetUp}
 use Rattle.ground.specs.declared.Verdict.{Verdict}
 use Rattle.ground.specs.declared.Verdict.the-variants.{Refused}
 
@@ -16,6 +16,8 @@ numberOf NoRoom = 5
 numberOf OutOfRange = 6
 numberOf BadOffer = 7
 numberOf NotAwaited = 8
+numberOf NotInRack = 9
+numberOf BadSetUp = 10
 
 -- the refusal where the test holds, else what the rest of the row comes to
 unfoldable pub refuseIf : Bool → Refusal → Verdict → Verdict

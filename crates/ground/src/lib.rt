@@ -2,6 +2,7 @@
 // of a row of tests. It promises the number of each refusal and the order of the tests, and rests on
 // nothing. Its `specs/` and `proofs/` hold the few notions and laws that all layers share.
 ghost use mathlib.Core.Path.{_≡_};
+ghost use Prim.Native.Nat.{max};
 ghost use Rattle.ground.specs.Refusals.{numberOf, refuseIf};
 
 // The paper's "Refusal numbers", one case for each row.
@@ -23,6 +24,10 @@ pub enum Refusal {
     BadOffer,
     // 8: the event isn't awaited in this state
     NotAwaited,
+    // 9: port number not in the rack
+    NotInRack,
+    // 10: bad set-up
+    BadSetUp,
 }
 
 // What a row of tests comes to: nothing to refuse, or the first refusal in the row.
@@ -44,6 +49,8 @@ pub fn number(r: Refusal) -> u8
         Refusal::OutOfRange => 6,
         Refusal::BadOffer => 7,
         Refusal::NotAwaited => 8,
+        Refusal::NotInRack => 9,
+        Refusal::BadSetUp => 10,
     }
 }
 
@@ -53,4 +60,11 @@ pub fn refuse_if(test: bool, r: Refusal, rest: Verdict) -> Verdict
     ensures { λ v. ⌜ v ≡ refuseIf test r rest ⌝ }
 {
     if test { Verdict::Refused(r) } else { rest }
+}
+
+// The larger of two numbers.
+pub fn larger(a: u32, b: u32) -> u32
+    ensures { λ r. ⌜ r ≡ max a b ⌝ }
+{
+    if a < b { b } else { a }
 }

@@ -36,6 +36,8 @@ fn put_refusal(out: &mut [u8], at: usize, r: Refusal) -> usize {
         Refusal::OutOfRange => text::put(out, end, b"a field or the object bytes out of range"),
         Refusal::BadOffer => text::put(out, end, b"bad offer"),
         Refusal::NotAwaited => text::put(out, end, b"the event is not awaited in this state"),
+        Refusal::NotInRack => text::put(out, end, b"port number not in the rack"),
+        Refusal::BadSetUp => text::put(out, end, b"bad set-up"),
     }
 }
 

@@ -1,7 +1,6 @@
 // The power that a port has promised: the accepted request, the contract, and what is held for them.
 // It promises what each change does to the three, for every port, and rests on what an offer is.
 ghost use mathlib.Core.Path.{_≡_};
-ghost use Prim.Native.Nat.{max};
 ghost use Rattle.power.specs.Power.{none, judges, accepts, comesIntoForce, givesUp, changed, byOffer, standingOf};
 use offers::Asked;
 use offers::Offer;
@@ -41,12 +40,6 @@ const NOTHING_ASKED: Asked = Asked {
     worth: 0,
 };
 
-fn larger(a: u32, b: u32) -> u32
-    ensures { λ r. ⌜ r ≡ max a b ⌝ }
-{
-    if a < b { b } else { a }
-}
-
 // At attach: zero, none, zero.
 pub fn new() -> Power
     ensures { λ r. ⌜ r ≡ none ⌝ }
@@ -75,7 +68,7 @@ impl Power {
     fn accepts(self) -> Power
         ensures { λ r. ⌜ r ≡ accepts self ⌝ }
     {
-        let held = larger(self.held, self.accepted.worth);
+        let held = ground::larger(self.held, self.accepted.worth);
         let a = self.accepted;
         let contract = self.contract;
         Power {

@@ -2,6 +2,7 @@
 // and what happens to held power. It promises the paper's state list, for every state, and holds no
 // memory: the port gives the facts that a state asks for.
 ghost use mathlib.Core.Path.{_≡_};
+ghost use Rattle.source.specs.declared.State.{State};
 ghost use Rattle.source.specs.States.{codeOf, same, listens, awaitsReply, running, stopped};
 ghost use Rattle.source.specs.Leads.{leads};
 ghost use Rattle.source.specs.Packets.{onPacket};
@@ -140,6 +141,13 @@ pub(crate) fn is(s: State, t: State) -> bool
     ensures { λ r. ⌜ r ≡ same s t ⌝ }
 {
     code_of(s) == code_of(t)
+}
+
+// Whether the power rule is asked: the state is Judge.
+pub fn judging(s: State) -> bool
+    ensures { λ r. ⌜ r ≡ same s State.Judge ⌝ }
+{
+    is(s, State::Judge)
 }
 
 // Whether a state listens to packets.
