@@ -1,6 +1,7 @@
 //! An independent second implementation, written from the paper alone, to be
-//! compared with the first. It has the paper's "The packet" and one port: "The
-//! port's memory and its actions" and "The Source states". The rack is not here.
+//! compared with the first. It has the paper's "The packet", one port ("The port's
+//! memory and its actions", "The Source states"), and the rack ("Refusal numbers"
+//! on a good set-up, "Power rule").
 
 mod chance;
 mod channel;
@@ -13,6 +14,16 @@ mod packet;
 mod packet_cases;
 mod packet_lines;
 mod port;
+mod rack;
+mod rack_cases;
+mod rack_lines;
+mod rack_nights;
+mod rack_odd_lines;
+mod rack_receivers;
+mod rack_requests;
+mod rack_set_ups;
+mod rack_situations;
+mod rack_stories;
 mod refusal;
 mod states;
 mod step_cases;
@@ -21,7 +32,9 @@ mod step_lines;
 mod step_odd_lines;
 mod step_random;
 mod step_situations;
+mod step_text;
 mod step_walk;
+mod step_words;
 mod writing_cases;
 
 use std::io::{self, BufWriter};
@@ -31,7 +44,8 @@ const USAGE: &str =
     "usage: second packets       answer the lines of standard input (docs/PACKETS.md)
        second packet-cases  print lines to try it with
        second steps         answer the lines of standard input (docs/STEPS.md)
-       second steps-cases   print lines to try it with";
+       second steps-cases   print lines to try it with, about one port
+       second rack-cases    print lines to try it with, about racks";
 
 fn main() -> ExitCode {
     let arguments: Vec<_> = std::env::args_os().skip(1).collect();
@@ -42,6 +56,7 @@ fn main() -> ExitCode {
         [Some("packet-cases")] => packet_cases::print_all(output),
         [Some("steps")] => step_lines::answer_all(io::stdin().lock(), output),
         [Some("steps-cases")] => step_cases::print_all(output),
+        [Some("rack-cases")] => rack_cases::print_all(output),
         _ => {
             eprintln!("{USAGE}");
             return ExitCode::from(2);

@@ -11,7 +11,7 @@ const MOST_VOLTAGE: u32 = 20_000 / 50;
 const MOST_CURRENT: u32 = 5_000 / 10;
 
 impl Object {
-    pub fn new(voltage: u32, current: u32) -> Object {
+    pub const fn new(voltage: u32, current: u32) -> Object {
         Object(voltage << 10 | current)
     }
 

@@ -1,5 +1,5 @@
 //! The paper's "Refusal numbers" in the words of docs/PACKETS.md (1 to 6) and
-//! docs/STEPS.md (7 and 8).
+//! docs/STEPS.md (7 to 10).
 
 pub fn text_of(number: u8) -> String {
     let words = match number {
@@ -11,6 +11,8 @@ pub fn text_of(number: u8) -> String {
         6 => "a field or the object bytes out of range",
         7 => "bad offer",
         8 => "the event is not awaited in this state",
+        9 => "port number not in the rack",
+        10 => "bad set-up",
         _ => unreachable!("nothing here is refused with {number}"),
     };
     format!("refused {number}, {words}")

@@ -50,7 +50,8 @@ fn every_pair(walk: &mut Walk) {
     for &(state, way) in SITUATIONS {
         // Every control type in each state once, and where a timer runs besides.
         let types = seen.insert(state) || way == "attach acked";
-        let standing = try_each(walk, way, |port| step_events::all(port, types));
+        let bring = |walk: &mut Walk| bring(walk, way);
+        let standing = try_each(walk, bring, |port| step_events::all(port, types));
         if standing.channel.pending.is_some() {
             retried(walk, way);
         }
@@ -60,28 +61,34 @@ fn every_pair(walk: &mut Walk) {
 /// The same with one retry and with two; the third failure is among the events.
 fn retried(walk: &mut Walk, way: &str) {
     for more in ["wrong", "acknowledgement wrong"] {
-        try_each(walk, &format!("{way} {more}"), step_events::few);
+        let way = format!("{way} {more}");
+        try_each(walk, |walk| bring(walk, &way), step_events::few);
     }
 }
 
 fn long_ways(walk: &mut Walk) {
     for &(state, way) in LONG_SITUATIONS {
+        let bring = |walk: &mut Walk| bring(walk, way);
         // Disabled stays as it is at nearly every event.
         match state {
-            State::Disabled => try_each(walk, way, |port| step_events::all(port, true)),
-            _ => try_each(walk, way, step_events::few),
+            State::Disabled => try_each(walk, bring, |port| step_events::all(port, true)),
+            _ => try_each(walk, bring, step_events::few),
         };
     }
 }
 
-/// Puts each event to a port that stands where the way leads, and hands that port
-/// back. An event that changed nothing leaves it standing there for the next.
-fn try_each(walk: &mut Walk, way: &str, events: impl Fn(&Port) -> Vec<String>) -> Port {
-    bring(walk, way);
+/// Puts each event to a port that was brought where it should stand, and hands that
+/// port back. An event that changed nothing leaves it standing there for the next.
+pub fn try_each(
+    walk: &mut Walk,
+    bring: impl Fn(&mut Walk),
+    events: impl Fn(&Port) -> Vec<String>,
+) -> Port {
+    bring(walk);
     let standing = walk.port().clone();
     for (number, event) in events(&standing).iter().enumerate() {
         if *walk.port() != standing {
-            bring(walk, way);
+            bring(walk);
         }
         walk.say(event);
         if *walk.port() != standing {

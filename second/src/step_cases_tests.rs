@@ -6,7 +6,7 @@ use crate::hex;
 use crate::meaning::{kind, meaning};
 use crate::packet::read;
 use crate::port::Timer;
-use crate::step_lines::{answer_all, Bench};
+use crate::step_lines::{answer_all, Bench, Reply};
 use std::sync::OnceLock;
 
 /// Made once, for they are many.
@@ -152,7 +152,7 @@ fn no_port_ever_stands_where_it_cannot() {
     let mut bench = Bench::new();
     for line in split(all_lines()) {
         let before = bench.port.clone();
-        if !matches!(bench.take(line), Some(Ok(_))) {
+        if !matches!(bench.take(line), Some(Reply::Alone(Ok(_)))) {
             assert_eq!(bench.port, before, "{}", line.escape_ascii());
         }
         let port = &bench.port;

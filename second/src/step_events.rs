@@ -25,7 +25,7 @@ const LONE_WORDS: [&str; 10] = [
 pub fn all(port: &Port, types: bool) -> Vec<String> {
     let mut lines: Vec<String> = LONE_WORDS.map(str::to_string).to_vec();
     lines.extend(good_offers());
-    lines.extend(bad_offers());
+    lines.extend(bad_offers().iter().map(|objects| offer_line(objects)));
     lines.extend(malformed_packets().iter().map(|bytes| packet_line(bytes)));
     let mut packets = good_crcs(port);
     packets.extend(repeats(port));
@@ -76,7 +76,7 @@ fn good_offers() -> Vec<String> {
 }
 
 /// The limit is 120,000, which 12 V 5 A just meets.
-fn bad_offers() -> Vec<String> {
+pub fn bad_offers() -> Vec<Vec<Object>> {
     let object = Object::new;
     let eight = [100, 110, 120, 130, 140, 150, 160, 170].map(|voltage| object(voltage, 1));
     let offers: [&[Object]; 15] = [
@@ -96,7 +96,7 @@ fn bad_offers() -> Vec<String> {
         &[FIVE_VOLT, object(241, 500)],
         &[FIVE_VOLT, NINE_VOLT, object(400, 301)],
     ];
-    offers.iter().map(|objects| offer_line(objects)).collect()
+    offers.map(<[Object]>::to_vec).to_vec()
 }
 
 /// Refused with 1, 2, 3 and 4, in that order.

@@ -46,7 +46,7 @@ fn new_port(walk: &mut Walk, chance: &mut Chance) {
 }
 
 /// One to seven objects, each as large as it may be or smaller.
-fn good_offer(chance: &mut Chance, limit: u32) -> Vec<Object> {
+pub fn good_offer(chance: &mut Chance, limit: u32) -> Vec<Object> {
     const VOLTAGES: [u32; 7] = [100, 140, 180, 200, 240, 300, 400];
     let mut objects = Vec::new();
     for &voltage in &VOLTAGES[..1 + chance.below(7)] {
@@ -126,7 +126,7 @@ fn wake(walk: &mut Walk, chance: &mut Chance) {
 }
 
 /// By a limit that may not be the port's, so that some are bad.
-fn some_offer(walk: &mut Walk, chance: &mut Chance) {
+pub fn some_offer(walk: &mut Walk, chance: &mut Chance) {
     let limit = chance.one_of(&[30_000, 30_000, 54_000, 120_000]);
     let mut objects = good_offer(chance, limit);
     if chance.below(6) == 0 {
@@ -136,7 +136,7 @@ fn some_offer(walk: &mut Walk, chance: &mut Chance) {
     walk.say(&offer_line(&objects));
 }
 
-fn anything(walk: &mut Walk, chance: &mut Chance) {
+pub fn anything(walk: &mut Walk, chance: &mut Chance) {
     const WORDS: [&str; 10] = [
         "attach",
         "detach",

@@ -1,10 +1,12 @@
 //! A walk: lines for the step program, and a port that takes them as they are
-//! written, so that the next line can depend on where the port has come to.
+//! written, so that the next line can depend on where the port has come to. The
+//! port is the one that stands alone, or one of a rack.
 
 use crate::hex;
 use crate::offer::{bytes_of, Object};
 use crate::packet::{read, write, Fields};
 use crate::port::Port;
+use crate::rack::{Bay, Place, Rack, SetUp};
 use crate::step_lines::Bench;
 
 pub const GOOD_CRC: u8 = 1;
@@ -20,6 +22,8 @@ pub const NINE_VOLT: Object = Object(0x0002_D12C);
 pub struct Walk {
     pub lines: Vec<u8>,
     bench: Bench,
+    /// The port of the rack that is meant; none is the port that stands alone.
+    number: Option<usize>,
 }
 
 impl Walk {
@@ -27,11 +31,30 @@ impl Walk {
         Walk {
             lines: Vec::new(),
             bench: Bench::new(),
+            number: None,
         }
     }
 
+    /// From here on a port of the rack is meant, which it must have.
+    pub fn turn_to(&mut self, number: usize) {
+        self.number = Some(number);
+    }
+
     pub fn port(&self) -> &Port {
-        &self.bench.port
+        match self.number {
+            None => &self.bench.port,
+            Some(_) => &self.bay().port,
+        }
+    }
+
+    /// The place of the port of the rack that is meant.
+    pub fn bay(&self) -> &Bay {
+        let bay = self.number.and_then(|number| self.rack().bay(number));
+        bay.expect("a walk turns only to ports that are in the rack")
+    }
+
+    pub fn rack(&self) -> &Rack {
+        &self.bench.beside.rack
     }
 
     /// Any bytes but a line end.
@@ -41,8 +64,12 @@ impl Walk {
         self.bench.take(line);
     }
 
+    /// An event, behind the port's number where it is one of the rack.
     pub fn say(&mut self, line: &str) {
-        self.raw(line.as_bytes());
+        match self.number {
+            None => self.raw(line.as_bytes()),
+            Some(number) => self.raw(format!("{number} {line}").as_bytes()),
+        }
     }
 
     pub fn packet(&mut self, bytes: &[u8]) {
@@ -50,7 +77,17 @@ impl Walk {
     }
 
     pub fn new_port(&mut self, limit: u32, objects: &[Object]) {
-        self.say(&with_bytes(&format!("port {limit}"), &bytes_of(objects)));
+        let line = with_bytes(&format!("port {limit}"), &bytes_of(objects));
+        self.raw(line.as_bytes());
+    }
+
+    /// All lines of a set-up, good or bad.
+    pub fn set_up(&mut self, set_up: &SetUp) {
+        self.raw(format!("supply {}", set_up.supply).as_bytes());
+        for place in &set_up.places {
+            self.raw(place_line(place).as_bytes());
+        }
+        self.raw(b"setup");
     }
 
     pub fn acknowledge(&mut self) {
@@ -104,6 +141,11 @@ pub fn packet_line(bytes: &[u8]) -> String {
 
 pub fn offer_line(objects: &[Object]) -> String {
     with_bytes("offer", &bytes_of(objects))
+}
+
+pub fn place_line(place: &Place) -> String {
+    let words = format!("place {} {}", place.share, place.limit);
+    with_bytes(&words, &bytes_of(&place.offer))
 }
 
 fn with_bytes(words: &str, bytes: &[u8]) -> String {

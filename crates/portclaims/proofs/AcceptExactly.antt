@@ -15,7 +15,7 @@ use Rattle.offers.specs.declared.Offer.{Offer}
 use Rattle.offers.specs.declared.Fit.{Fit}
 use Rattle.offers.specs.declared.Fit.the-variants.{Fits}
 use Rattle.offers.specs.Requests.{fits, asked, judged, fitOf}
-use Rattle.outgoing.specs.Packets.{controlOf}
+use Rattle.outgoing.specs.Packets.{noPacket, controlOf}
 use Rattle.power.specs.declared.Change.{Change}
 use Rattle.power.specs.Power.{nothingAsked, changed}
 use Rattle.source.specs.declared.State.{State}
@@ -31,6 +31,7 @@ use Rattle.source.specs.Leads.{leads}
 use Rattle.source.specs.Packets.{sameHeard, onPacket}
 use Rattle.source.specs.Changes.{changeOf}
 use Rattle.source.proofs.Finite.{everywhere, at-packets}
+use Rattle.port.specs.declared.Supply.{Supply}
 use Rattle.port.specs.declared.Port.{Port}
 use Rattle.port.specs.declared.Answer.{Answer}
 use Rattle.port.specs.declared.Event.{Event}
@@ -91,6 +92,17 @@ module _ (p : Port) (s : List ℕ) (r : FittingRequest p s) where
   pub comes-to-ask : (stateOf (step p (packet s) .port) ≡ State.Judge) × (step p (packet s) .port .power .accepted ≡ wanted)
   unfolding step packetOf messageOf byMeaning otherPacket newPacket heardAs turn enter
   comes-to-ask = rw (r .new .read, r .new .listening, r .new .meaning, r .new .fresh, it-fits, to-judge (stateOf p) (r .awaited)) (refl, refl)
+
+  -- until the power answer comes it sends GoodCRC, stops a timer and does nothing else; and held is what it was
+  pub asks-quietly :
+      (step p (packet s) .held ≡ Change.Nothing)
+      × (step p (packet s) .port .power .held ≡ p .power .held)
+      × (step p (packet s) .actions .transmit ≡ noPacket)
+      × (step p (packet s) .actions .«hard_reset» ≡ false)
+      × (step p (packet s) .actions .supply ≡ Supply.Unchanged)
+      × (step p (packet s) .actions .start ≡ Timer.NoTimer)
+  unfolding step packetOf messageOf byMeaning otherPacket newPacket heardAs turn enter
+  asks-quietly = rw (r .new .read, r .new .listening, r .new .meaning, r .new .fresh, it-fits, to-judge (stateOf p) (r .awaited)) (refl, refl, refl, refl, refl, refl)
 
 -- ---- and only so
 abbrev judgeTest : State → Stimulus → Lead → Bool

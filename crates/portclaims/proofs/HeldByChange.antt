@@ -1,6 +1,6 @@
 -- What happens to held power in an event is what the answer says: nothing; accepted, the larger of held and asked; in force, the accepted worth; given up, zero.
 -- Assumes nothing.
-use Prim.Native.Nat.{ℕ, max}
+use Prim.Native.Nat.{ℕ}
 use mathlib.Core.Path.{_≡_, refl, sym, ap, subst, _∙_}
 use mathlib.Core.Bool.{Bool, true, not}
 use lib.Dec.{T}
@@ -26,18 +26,12 @@ use Rattle.port.specs.Memory.{stateOf, pendingIn, factsOf, runningIn, noCrc}
 use Rattle.port.specs.Steps.{withChange, turn, nothingDone, resent}
 use Rattle.port.specs.Packets.{askedBy, isSoftReset, crcFor, hearing}
 use Rattle.port.specs.Calls.{Call, step}
+use Rattle.portclaims.specs.Held.{heldAfter}
 use Rattle.portclaims.specs.Between.{calm, isMade, worthIn, Between}
 use Rattle.portclaims.proofs.Truth.{holds, true-not-false, second, not-true}
 use Rattle.portclaims.proofs.Ways as Ways
 use Rattle.portclaims.proofs.Led.{at-way}
 use Rattle.portclaims.proofs.Shapes.{Rule, by-attach, by-detach, by-hard-reset, by-acknowledgement, by-failure, by-sender-response, by-source-capability, by-ps-hard-reset, by-supply-ready, by-yes, by-no, by-offer, fitIn, Shape, refused, idle, again, led, heard, shape}
-
--- held power after a change, from what was held and what was asked
-abbrev pub heldAfter : Change → ℕ → ℕ → ℕ
-heldAfter Change.Nothing held asked = held
-heldAfter Change.Accepted held asked = max held asked
-heldAfter Change.InForce held asked = asked
-heldAfter Change.GivenUp held asked = 0
 
 with-change : (c : Change) (q : Port) → withChange c q .power .held ≡ heldAfter c (q .power .held) (q .power .accepted .worth)
 unfolding changed

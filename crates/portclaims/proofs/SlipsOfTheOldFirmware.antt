@@ -44,7 +44,8 @@ use Rattle.portclaims.proofs.Truth.{true-not-false, then, not-true}
 use Rattle.portclaims.proofs.Ways as Ways
 use Rattle.portclaims.proofs.Led.{at-way, is-same}
 use Rattle.portclaims.proofs.Between.{step-keeps}
-use Rattle.portclaims.proofs.HeldByChange.{heldAfter, held-by-change}
+use Rattle.portclaims.specs.Held.{heldAfter}
+use Rattle.portclaims.proofs.HeldByChange.{held-by-change}
 use Rattle.portclaims.proofs.AcceptExactly.{FittingRequest, comes-to-ask}
 use Rattle.portclaims.proofs.Shapes.{Shape, refused, idle, again, led, heard, shape}
 

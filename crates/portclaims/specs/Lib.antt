@@ -1,3 +1,4 @@
 pub mod Between
+pub mod Held
 pub mod Messages
 pub mod OfferCount

@@ -1,0 +1,11 @@
+pub mod OwnSteps
+pub mod Settling
+pub mod Neighbours
+pub mod RefusedChangesNothing
+pub mod GoodSetUps
+pub mod Reached
+pub mod AcceptExactly
+pub mod WireOffers
+pub mod Wired
+pub mod HeldByHistory
+pub mod SupplyHolds
