@@ -9,3 +9,6 @@ pub mod WireOffers
 pub mod Wired
 pub mod HeldByHistory
 pub mod SupplyHolds
+pub mod NothingLoose
+pub mod OneSetOfActions
+pub mod Witnesses

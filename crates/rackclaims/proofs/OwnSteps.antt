@@ -165,11 +165,13 @@ module _ (p : Port) (elsewhere : same (stateOf p) State.Judge ≡ false) where
         in-hand = λ h.
             let x : ((inHand s && isNothing d) && (not (clears e) && not (isJudgeWay way))) ≡ true = then _ _ (so _ (second (forceTest s e) (handTest s e way) rest)) (sym (ap inHand (led-state p c e q t rule noCrc t d way nothingAsked)) ∙ h) in
             let y : (inHand s && isNothing d) ≡ true = first _ _ x in
-            let z : (not (clears e) && not (isJudgeWay way)) ≡ true = second (inHand s && isNothing d) _ x in
-            (first (inHand s) (isNothing d) y, is-nothing d (second (inHand s) (isNothing d) y),
-            ap (λ w. w .accepted) (power-enters way nothingAsked (withChange d q) (not-true (isJudgeWay way) (second (not (clears e)) _ z)))
-            ∙ change-accepted d q
-            ∙ ap (λ w. w .accepted) (rule-power p c e q t rule (not-true (clears e) (first (not (clears e)) _ z))));
+            let z : (not (clears e) && not (isJudgeWay way)) ≡ true = second (inHand s && isNothing d) _ x in (
+              first (inHand s) (isNothing d) y,
+              is-nothing d (second (inHand s) (isNothing d) y),
+              ap (λ w. w .accepted) (power-enters way nothingAsked (withChange d q) (not-true (isJudgeWay way) (second (not (clears e)) _ z)))
+                  ∙ change-accepted d q
+                  ∙ ap (λ w. w .accepted) (rule-power p c e q t rule (not-true (clears e) (first (not (clears e)) _ z))),
+            );
       }
 
   own-shape : (c : Call) (a : Answer) → Shape p c a → Own p a

@@ -71,7 +71,7 @@ module _ (s : Slot) (others supply : ℕ) (k : Steady (s .port)) where
       let j = Port.step (s .port) (packet bytes) .port in
       let kept : j .power .held ≡ s .port .power .held = asks-quietly (s .port) bytes q .1 in
       let now : max (s .port .power .held) (asks (s .port) bytes) ≡ judged true (Port.step (s .port) (packet bytes)) .port .power .held =
-          sym (at-yes j (comes-to-ask (s .port) bytes q .0) .held-is ∙ rw (kept, asked-is (s .port) bytes q)) in
+      sym (at-yes j (comes-to-ask (s .port) bytes q .0) .held-is ∙ rw (kept, asked-is (s .port) bytes q)) in
       subst Holds now (approved (asks (s .port) bytes) e)
   by-view c a (denied bytes q e) = same-power (packet bytes) _ (at-no (Port.step (s .port) (packet bytes) .port) (comes-to-ask (s .port) bytes q .0) .held-is)
 
@@ -124,7 +124,7 @@ module _ (u : SetUp) (good : goodSetUp u ≡ true) where
       loads-after =
           let within : i < portsIn r = subst (λ n. i < n) (sym ports-are) here in
           let changed : total (λ m. loadOf (at (put r i p) m)) (portsIn r) + loadOf (at r i) ≡ total (λ m. loadOf (at r m)) (portsIn r) + loadOf (at (put r i p) i) =
-              total-change (λ m. loadOf (at (put r i p) m)) (λ m. loadOf (at r m)) (portsIn r) i within (λ m d. ap loadOf (put-other r i m p d)) in
+          total-change (λ m. loadOf (at (put r i p) m)) (λ m. loadOf (at r m)) (portsIn r) i within (λ m d. ap loadOf (put-other r i m p d)) in
           omega (arith, changed, ap loadOf at-its-place, others-and-this r i within)
 
     turned-reached : (i : ℕ) (h : Happening) → i < u .count → Reached u (put r i (answerAt r i h .port))

@@ -1,2 +1,3 @@
 pub mod Wire
 pub mod History
+pub mod NightDesk

@@ -1,23 +1,18 @@
-// The answer to a line and the port's memory, as text.
-use channel::Channel;
-use channel::Stored;
+// The answer to a line, as text.
+use crate::memory::put_memory;
+use crate::memory::put_packet;
 use ground::Refusal;
 use ground::Verdict;
-use offers::Asked;
-use offers::Offer;
 use outgoing::Packet;
 use port::Actions;
 use port::Answer;
 use port::GoodCrc;
-use port::Port;
 use port::Supply;
 use power::Change;
-use power::Contract;
-use power::Power;
-use source::State;
+use rack::PORTS;
+use rack::Rack;
+use rack::RackAnswer;
 use source::Timer;
-
-// ---- the answer
 
 // The words of a refusal in docs/PACKETS.md and docs/STEPS.md.
 fn put_refusal(out: &mut [u8], at: usize, r: Refusal) -> usize {
@@ -42,6 +37,8 @@ fn put_refusal(out: &mut [u8], at: usize, r: Refusal) -> usize {
         Refusal::OutOfRange => end,
         Refusal::BadOffer => text::put(out, end, b"bad offer"),
         Refusal::NotAwaited => text::put(out, end, b"the event is not awaited in this state"),
+        Refusal::NotInRack => text::put(out, end, b"port number not in the rack"),
+        Refusal::BadSetUp => text::put(out, end, b"bad set-up"),
     }
 }
 
@@ -52,21 +49,6 @@ fn put_action(out: &mut [u8], first: usize, at: usize, words: &[u8]) -> usize {
     }
     let parted = text::put(out, at, b"; ");
     text::put(out, parted, words)
-}
-
-// The bytes of a packet from a place on.
-fn put_part(out: &mut [u8], at: usize, bytes: &[u8; 30], from: usize, length: u8) -> usize {
-    let all: &[u8] = bytes;
-    let end = length as usize;
-    if from <= end && end <= all.len() {
-        return text::put_bytes(out, at, &all[from..end]);
-    }
-    at
-}
-
-fn put_packet(out: &mut [u8], at: usize, m: Packet) -> usize {
-    let bytes = m.bytes;
-    put_part(out, at, &bytes, 0, m.length)
 }
 
 fn put_crc(out: &mut [u8], first: usize, at: usize, crc: GoodCrc) -> usize {
@@ -167,125 +149,53 @@ fn put_change(out: &mut [u8], at: usize, c: Change) -> usize {
     }
 }
 
-// ---- the memory
-
-// A name and its number.
-fn put_named(out: &mut [u8], at: usize, name: &[u8], n: u32) -> usize {
-    let named = text::put(out, at, name);
-    text::put_decimal(out, named, n)
+// What is said of an event: its actions or the refusal, and what happened to held power.
+fn put_event(out: &mut [u8], v: Verdict, a: Actions, c: Change) -> usize {
+    let said = put_verdict(out, v, a);
+    let held = put_change(out, said, c);
+    text::put(out, held, b" | ")
 }
 
-fn put_yes(out: &mut [u8], at: usize, name: &[u8], yes: bool) -> usize {
-    let named = text::put(out, at, name);
-    if yes {
-        return text::put(out, named, b"yes");
-    }
-    text::put(out, named, b"no")
-}
-
-fn put_state(out: &mut [u8], at: usize, s: State) -> usize {
-    match s {
-        State::Detached => text::put(out, at, b"Detached"),
-        State::Offer => text::put(out, at, b"Offer"),
-        State::Discovery => text::put(out, at, b"Discovery"),
-        State::Disabled => text::put(out, at, b"Disabled"),
-        State::Judge => text::put(out, at, b"Judge"),
-        State::Accepting => text::put(out, at, b"Accepting"),
-        State::Moving => text::put(out, at, b"Moving"),
-        State::Telling => text::put(out, at, b"Telling"),
-        State::Ready => text::put(out, at, b"Ready"),
-        State::Declining => text::put(out, at, b"Declining"),
-        State::Refusing => text::put(out, at, b"Refusing"),
-        State::Waiting => text::put(out, at, b"Waiting"),
-        State::Soft => text::put(out, at, b"Soft"),
-        State::Answering => text::put(out, at, b"Answering"),
-        State::Hard => text::put(out, at, b"Hard"),
-        State::Default => text::put(out, at, b"Default"),
-    }
-}
-
-fn put_stored(out: &mut [u8], at: usize, s: Stored) -> usize {
-    match s {
-        Stored::Nothing => text::put(out, at, b", stored none"),
-        Stored::Id(id) => put_named(out, at, b", stored ", id as u32),
-    }
-}
-
-fn put_channel(out: &mut [u8], at: usize, c: Channel) -> usize {
-    let stored = c.stored;
-    let m = c.pending.packet;
-    let counted = put_named(out, at, b", counter ", c.counter as u32);
-    let kept = put_stored(out, counted, stored);
-    let begun = text::put(out, kept, b", pending ");
-    let end = put_packet(out, begun, m);
-    put_named(out, end, b", retries ", c.pending.retries as u32)
-}
-
-// The objects' bytes as a message of ours has them, behind its header.
-fn put_offer(out: &mut [u8], at: usize, name: &[u8], o: Offer) -> usize {
-    let named = text::put(out, at, name);
-    let objects = o.objects;
-    let m = outgoing::with_objects(0, 0, objects, o.count);
-    let bytes = m.bytes;
-    put_part(out, named, &bytes, 2, m.length)
-}
-
-fn put_asked(out: &mut [u8], at: usize, name: &[u8], a: Asked) -> usize {
-    let position = put_named(out, at, name, a.position as u32);
-    let voltage = put_named(out, position, b" ", a.voltage);
-    let current = put_named(out, voltage, b" ", a.current);
-    put_named(out, current, b" ", a.worth)
-}
-
-fn put_contract(out: &mut [u8], at: usize, c: Contract) -> usize {
-    match c {
-        Contract::Nothing => text::put(out, at, b", contract none"),
-        Contract::Made(a) => put_asked(out, at, b", contract ", a),
-    }
-}
-
-fn put_power(out: &mut [u8], at: usize, w: Power) -> usize {
-    let accepted = w.accepted;
-    let contract = w.contract;
-    let asked = put_asked(out, at, b", accepted ", accepted);
-    let agreed = put_contract(out, asked, contract);
-    put_named(out, agreed, b", held ", w.held)
-}
-
-fn put_offers(out: &mut [u8], at: usize, p: Port) -> usize {
-    let newest = p.newest;
-    let last = p.last;
-    let new = put_offer(out, at, b", newest ", newest);
-    let gone = put_yes(out, new, b", gone out ", p.gone_out);
-    put_offer(out, gone, b", last ", last)
-}
-
-fn put_count(out: &mut [u8], at: usize, p: Port) -> usize {
-    let counted = put_named(out, at, b", count ", p.count as u32);
-    put_yes(out, counted, b", connected ", p.connected)
-}
-
-fn put_memory(out: &mut [u8], at: usize, p: Port) -> usize {
-    let phase = p.phase;
-    let s = phase.state;
-    let channel = p.channel;
-    let power = p.power;
-    let state = put_state(out, at, s);
-    let sent = put_channel(out, state, channel);
-    let offered = put_offers(out, sent, p);
-    let held = put_power(out, offered, power);
-    put_count(out, held, p)
-}
-
-// The answer, with its line end; it has room for the longest.
+// The answer of the port that stands alone, with its line end; it has room for the longest.
 pub fn put_answer(out: &mut [u8], a: Answer) -> usize {
     let verdict = a.verdict;
     let actions = a.actions;
     let change = a.held;
     let p = a.port;
-    let said = put_verdict(out, verdict, actions);
-    let held = put_change(out, said, change);
-    let parted = text::put(out, held, b" | ");
-    let end = put_memory(out, parted, p);
+    let told = put_event(out, verdict, actions, change);
+    let end = put_memory(out, told, p);
+    text::put(out, end, b"\n")
+}
+
+// The memory of the rack's port with this number, or a dash where the rack has none.
+fn put_memory_in(out: &mut [u8], at: usize, r: Rack, number: u8) -> usize {
+    if r.has(number) {
+        // Port 1 has the first slot. The remainder changes no number of a port, and shows that there is a
+        // slot for it.
+        let i = (number as usize + PORTS - 1) % PORTS;
+        let s = r.slots[i];
+        return put_memory(out, at, s.port);
+    }
+    text::put(out, at, b"-")
+}
+
+fn put_sum(out: &mut [u8], at: usize, r: Rack) -> usize {
+    let mut figures = [0u8; 20];
+    let k = io::decimal(r.load(), &mut figures);
+    let named = text::put(out, at, b" | rack: ");
+    let summed = text::put(out, named, &figures[..k]);
+    let parted = text::put(out, summed, b" of ");
+    text::put_decimal(out, parted, r.supply)
+}
+
+// The answer of the rack to what came to the port with this number.
+pub fn put_rack_answer(out: &mut [u8], number: u8, a: RackAnswer) -> usize {
+    let verdict = a.verdict;
+    let actions = a.actions;
+    let change = a.held;
+    let r = a.rack;
+    let told = put_event(out, verdict, actions, change);
+    let remembered = put_memory_in(out, told, r, number);
+    let end = put_sum(out, remembered, r);
     text::put(out, end, b"\n")
 }

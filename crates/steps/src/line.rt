@@ -1,4 +1,5 @@
 // A line of input as it comes in, character by character.
+use crate::front::Front;
 
 pub struct Line {
     // The first 240 characters, how many there are, and how many without the spaces and carriage
@@ -8,6 +9,8 @@ pub struct Line {
     pub end: usize,
     // Whether there were more.
     pub long: bool,
+    // The port's number that it may begin with.
+    pub front: Front,
 }
 
 impl Line {
@@ -17,6 +20,7 @@ impl Line {
             length: 0,
             end: 0,
             long: false,
+            front: Front::new(),
         }
     }
 
@@ -27,6 +31,9 @@ impl Line {
             self.long = true;
             return self;
         }
+        let front = self.front;
+        let further = front.with(c, length);
+        self.front = further;
         self.chars[length] = c;
         self.length = length + 1;
         if (c == b' ') | (c == b'\r') {

@@ -1,13 +1,23 @@
-// Steps one port through lines of events from standard input, and writes for each the answer and the
-// port's memory. docs/STEPS.md has the lines.
+// Steps a port, and a rack of ports, through lines of events from standard input, and writes for each
+// the answer and the port's memory. docs/STEPS.md has the lines.
 mod answer;
+mod bench;
 mod command;
+mod front;
+mod in_hand;
 mod line;
+mod memory;
+mod rest;
 
-use command::Bench;
+use bench::Bench;
+use bench::Step;
+use command::Command;
+use command::Order;
 use libc::STDIN_FILENO;
 use libc::STDOUT_FILENO;
 use line::Line;
+use rack::RackAnswer;
+use setup::SetUp;
 
 // Writes the first bytes.
 fn say(out: &[u8], n: usize) {
@@ -16,23 +26,53 @@ fn say(out: &[u8], n: usize) {
     }
 }
 
-// Answers a line, and hands back the port as it then is.
-fn respond(l: Line, b: Bench) -> Bench {
+// The answer of the port that stands alone.
+fn answer_alone(b: Bench, s: Step) -> Bench {
     let mut out = io::buffer();
+    let n = answer::put_answer(&mut out, s.answer);
+    say(&out, n);
+    b.after(s)
+}
+
+// The answer of the rack, with the memory of the port with this number.
+fn answer_in_rack(b: Bench, number: u8, a: RackAnswer) -> Bench {
+    let mut out = io::buffer();
+    let n = answer::put_rack_answer(&mut out, number, a);
+    say(&out, n);
+    b.with_rack(a.rack)
+}
+
+fn note(b: Bench, u: SetUp) -> Bench {
+    io::write_all(STDOUT_FILENO, b"noted\n");
+    b.with_in_hand(u)
+}
+
+// Does what a command that is understood asks.
+fn obey(c: Command, b: Bench) -> Bench {
+    let order = c.order;
+    let r = c.rest;
+    match order {
+        Order::Alone(coming) => answer_alone(b, b.alone(coming, r)),
+        Order::NewPort => answer_alone(b, b.new_port(r)),
+        Order::InRack(number, coming) => answer_in_rack(b, number, b.in_rack(number, coming, r)),
+        // It is about no one port; no rack has a port 0, and so there is no memory to tell.
+        Order::SetUp => answer_in_rack(b, 0, b.set_up()),
+        Order::Supply => note(b, in_hand::begun(r.number)),
+        Order::Place => note(b, in_hand::placed(b.in_hand, r)),
+    }
+}
+
+// Answers a line, and hands back the bench as it then is.
+fn respond(l: Line, b: Bench) -> Bench {
     let c = command::understand(l);
     if c.understood() {
-        let s = b.step(c);
-        let a = s.answer;
-        let n = answer::put_answer(&mut out, a);
-        say(&out, n);
-        return s.bench();
+        return obey(c, b);
     }
-    let n = text::put(&mut out, 0, b"not understood\n");
-    say(&out, n);
+    io::write_all(STDOUT_FILENO, b"not understood\n");
     b
 }
 
-// What is kept between two characters: the line that has not ended, and the port.
+// What is kept between two characters: the line that has not ended, and the bench.
 struct Kept {
     line: Line,
     bench: Bench,

@@ -1,0 +1,118 @@
+-- A worked case for each claim that has a condition, so that none of them speaks of nothing: the rack of the night desk's example 8, brought there by events
+-- alone. The checker computes each. Assumes nothing.
+use Prim.Native.Nat.{ℕ, suc, max, _+_}
+use mathlib.Core.Path.{_≡_, refl}
+use mathlib.Core.Bool.{true, false}
+use mathlib.Core.List.{List, [], _∷_, _++_}
+use Rattle.ground.specs.declared.Refusal.the-variants.{NotAwaited, NotInRack, BadSetUp}
+use Rattle.ground.specs.declared.Verdict.the-variants.{Fine, Refused}
+use Rattle.ground.specs.Refusals.{refuseIf}
+use Rattle.message.specs.Header.{fieldsOf, objectsOf, headerOf}
+use Rattle.message.specs.Bytes.{wordOf, isChunked, bytesOf}
+use Rattle.meaning.specs.Meaning.{meaningOf}
+use Rattle.reading.specs.Reading.{readOf, readingTried, partOf}
+use Rattle.offers.specs.Offers.{objectAt, goodObject, goodFrom, goodOffer}
+use Rattle.offers.specs.Requests.{fits, asked, fitOf, isHonoured}
+use Rattle.outgoing.specs.Packets.{onWire, controlOf, dataOf}
+use Rattle.channel.specs.Channel.{pendingId, isRepeat, ended, again, heard, sends}
+use Rattle.channel.specs.Outcomes.{onGoodCrc, onExpiry}
+use Rattle.power.specs.declared.Change.{Change}
+use Rattle.power.specs.Power.{changed, standingOf}
+use Rattle.source.specs.declared.State.{State}
+use Rattle.source.specs.States.{same}
+use Rattle.source.specs.Leads.{leads}
+use Rattle.source.specs.Packets.{onPacket}
+use Rattle.source.specs.Changes.{changeOf}
+use Rattle.port.specs.declared.Event.{Event}
+use Rattle.port.specs.Memory.{stateOf}
+use Rattle.port.specs.Entering.{enter}
+use Rattle.port.specs.Steps.{turn, happens, acknowledged, failed, resent, byOutcome, nothingDone, eventOf, newOfferOf}
+use Rattle.port.specs.Packets.{firstObject, meaningIn, heardAs, newPacket, otherPacket, goodCrcHeard, byMeaning, messageOf, packetOf}
+use Rattle.port.specs.Calls as Port
+use Rattle.portclaims.proofs.AcceptExactly.{FittingRequest}
+use Rattle.slot.specs.Load.{loadOf, approves}
+use Rattle.slot.specs.Answers.{hasAsked, judged, settled}
+use Rattle.rack.specs.declared.Rack.{Rack}
+use Rattle.rack.specs.Ports.{at, portsIn, total, others, powerRule}
+use Rattle.rack.specs.Steps.{event, packet, ownAnswer, answerAt, step}
+use Rattle.rack.specs.Runs.{Happens, run}
+use Rattle.setup.specs.SetUps.{goodSetting, goodSetUp, setUp}
+use Rattle.rackclaims.specs.Wire.{isOffer}
+use Rattle.rackclaims.specs.History.{history, heldBy}
+use Rattle.rackclaims.specs.NightDesk as Desk
+use Rattle.rackclaims.proofs.Settling.{asks}
+
+-- ports 1 and 2 have asked for 120,000 and 54,000, and the receiver at port 3 has its offer
+abbrev before : List Desk.Asking
+before = record { number = 1; bytes = Desk.for120000 } ∷ (record { number = 2; bytes = Desk.for54000 } ∷ [])
+
+abbrev pub desk : Rack
+desk = Desk.rackAfter before 3
+
+-- the events that led there, and port 3's Request for 36,000 behind them
+abbrev night : List Happens
+night = Desk.asked before ++ (Desk.attached 3 ++ (Desk.asking 3 Desk.for36000 ∷ []))
+
+-- a set-up that is accepted, and one that is not: its ports' shares add to more than its supply
+pub set-ups :
+    (setUp Desk.nightDesk .verdict ≡ Fine)
+    × (setUp (record { settings = Desk.nightDesk .settings; count = 8; supply = 239999 }) .verdict ≡ Refused BadSetUp)
+unfolding setUp goodSetUp goodSetting goodOffer goodFrom goodObject objectAt
+set-ups = (refl, refl)
+
+-- SupplyHolds, HeldByHistory: what the ports hold by the history of that night
+pub held-that-night :
+    (heldBy 1 (history (setUp Desk.nightDesk .rack) night) ≡ 120000)
+    × (heldBy 2 (history (setUp Desk.nightDesk .rack) night) ≡ 54000)
+    × (heldBy 3 (history (setUp Desk.nightDesk .rack) night) ≡ 36000)
+    × (heldBy 4 (history (setUp Desk.nightDesk .rack) night) ≡ 0)
+unfolding Desk.rackAfter run history heldBy step answerAt settled judged approves powerRule others setUp goodSetUp goodSetting goodOffer goodFrom goodObject objectAt isOffer Port.step eventOf packetOf readOf readingTried refuseIf wordOf fieldsOf objectsOf partOf isChunked messageOf meaningIn meaningOf byMeaning otherPacket newPacket goodCrcHeard byOutcome onGoodCrc onExpiry pendingId isRepeat acknowledged failed resent nothingDone happens leads onPacket changeOf heardAs firstObject fitOf fits asked turn enter changed standingOf isHonoured ended again heard sends controlOf dataOf headerOf bytesOf newOfferOf
+held-that-night = (refl, refl, refl, refl)
+
+-- AcceptExactly: port 3's Requests fit; the rule approves 36,000 and not 36,180; 30,000 is no more than its share
+pub requests :
+    FittingRequest (at desk 2 .port) Desk.for36000
+    × FittingRequest (at desk 2 .port) Desk.for36180
+    × (powerRule desk 2 (asks (at desk 2 .port) Desk.for36000) ≡ true)
+    × (powerRule desk 2 (asks (at desk 2 .port) Desk.for36180) ≡ false)
+    × FittingRequest (at desk 2 .port) Desk.for30000
+    × (asks (at desk 2 .port) Desk.for30000 ≡ 30000)
+unfolding Desk.rackAfter run history heldBy step answerAt settled judged approves powerRule others setUp goodSetUp goodSetting goodOffer goodFrom goodObject objectAt isOffer Port.step eventOf packetOf readOf readingTried refuseIf wordOf fieldsOf objectsOf partOf isChunked messageOf meaningIn meaningOf byMeaning otherPacket newPacket goodCrcHeard byOutcome onGoodCrc onExpiry pendingId isRepeat acknowledged failed resent nothingDone happens leads onPacket changeOf heardAs firstObject fitOf fits asked turn enter changed standingOf isHonoured ended again heard sends controlOf dataOf headerOf bytesOf newOfferOf
+requests =
+    (record {
+      objects = 1;
+      fields = record { extended = false; «message_id» = 0; «power_role» = 0; revision = 2; «data_role» = 0; «message_type» = 2 };
+      new = record { read = refl; listening = refl; meaning = refl; fresh = refl };
+      awaited = refl;
+      fitting = refl;
+    },
+    record {
+      objects = 1;
+      fields = record { extended = false; «message_id» = 0; «power_role» = 0; revision = 2; «data_role» = 0; «message_type» = 2 };
+      new = record { read = refl; listening = refl; meaning = refl; fresh = refl };
+      awaited = refl;
+      fitting = refl;
+    },
+    refl,
+    refl,
+    record {
+      objects = 1;
+      fields = record { extended = false; «message_id» = 0; «power_role» = 0; revision = 2; «data_role» = 0; «message_type» = 2 };
+      new = record { read = refl; listening = refl; meaning = refl; fresh = refl };
+      awaited = refl;
+      fitting = refl;
+    },
+    refl)
+
+-- AcceptExactly.accepted-only-so, Neighbours: an answer that accepts, a port that has asked, and one that has not
+pub answers :
+    (answerAt desk 2 (packet Desk.for36000) .held ≡ Change.Accepted)
+    × (hasAsked (at desk 2 .port) (ownAnswer desk 2 (packet Desk.for36000) .port) ≡ true)
+    × (hasAsked (at desk 2 .port) (ownAnswer desk 2 (event Event.Detach) .port) ≡ false)
+unfolding Desk.rackAfter run history heldBy step answerAt settled judged approves powerRule others setUp goodSetUp goodSetting goodOffer goodFrom goodObject objectAt isOffer Port.step eventOf packetOf readOf readingTried refuseIf wordOf fieldsOf objectsOf partOf isChunked messageOf meaningIn meaningOf byMeaning otherPacket newPacket goodCrcHeard byOutcome onGoodCrc onExpiry pendingId isRepeat acknowledged failed resent nothingDone happens leads onPacket changeOf heardAs firstObject fitOf fits asked turn enter changed standingOf isHonoured ended again heard sends controlOf dataOf headerOf bytesOf newOfferOf
+answers = (refl, refl, refl)
+
+-- RefusedChangesNothing: a port that is not there, and an event that is not awaited
+pub refusals : (step desk 5 (event Event.Detach) .verdict ≡ Refused NotInRack) × (step desk 0 (event Event.Detach) .verdict ≡ Refused NotInRack) × (step desk 3 (event Event.Attach) .verdict ≡ Refused NotAwaited)
+unfolding Desk.rackAfter run history heldBy step answerAt settled judged approves powerRule others setUp goodSetUp goodSetting goodOffer goodFrom goodObject objectAt isOffer Port.step eventOf packetOf readOf readingTried refuseIf wordOf fieldsOf objectsOf partOf isChunked messageOf meaningIn meaningOf byMeaning otherPacket newPacket goodCrcHeard byOutcome onGoodCrc onExpiry pendingId isRepeat acknowledged failed resent nothingDone happens leads onPacket changeOf heardAs firstObject fitOf fits asked turn enter changed standingOf isHonoured ended again heard sends controlOf dataOf headerOf bytesOf newOfferOf
+refusals = (refl, refl, refl)
