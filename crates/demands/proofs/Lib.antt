@@ -4,3 +4,6 @@ pub mod ReadWritesBack
 pub mod RefusedWriteChangesNothing
 pub mod StarredExamples
 pub mod Witnesses
+pub mod Demand1
+pub mod Demand2
+pub mod Demand3

@@ -3,19 +3,21 @@
 -- Assumes nothing.
 use Prim.Native.Nat.{ℕ, max}
 use mathlib.Core.Path.{_≡_, refl, sym, subst, _∙_}
-use mathlib.Core.Bool.{Bool, true, false, not, cond, _&&_, _||_}
+use mathlib.Core.Bool.{Bool, true, false, not, cond, _&&_}
 use mathlib.Core.List.{List, [], _∷_}
 use lib.Dec.{T, eqb}
 use Rattle.message.specs.declared.Fields.{Fields}
 use Rattle.message.specs.Types as Types
 use Rattle.meaning.specs.declared.Meaning.{Meaning}
-use Rattle.reading.specs.Reading.{partOf}
+use Rattle.reading.specs.declared.Reading.{Reading}
+use Rattle.reading.specs.Reading.{readOf, partOf}
 use Rattle.offers.specs.declared.Asked.{Asked}
 use Rattle.offers.specs.declared.Offer.{Offer}
 use Rattle.offers.specs.declared.Fit.{Fit}
 use Rattle.offers.specs.declared.Fit.the-variants.{Fits}
 use Rattle.offers.specs.Requests.{fits, asked, judged, fitOf}
 use Rattle.outgoing.specs.Packets.{noPacket, controlOf}
+use Rattle.channel.specs.Channel.{isRepeat}
 use Rattle.power.specs.declared.Change.{Change}
 use Rattle.power.specs.Power.{nothingAsked, changed}
 use Rattle.source.specs.declared.State.{State}
@@ -26,7 +28,7 @@ use Rattle.source.specs.declared.Facts.{Facts}
 use Rattle.source.specs.declared.Lead.{Lead}
 use Rattle.source.specs.declared.Lead.the-variants.{Refuse, To}
 use Rattle.source.specs.declared.Way.{Way}
-use Rattle.source.specs.States.{same}
+use Rattle.source.specs.States.{same, listens}
 use Rattle.source.specs.Leads.{leads}
 use Rattle.source.specs.Packets.{sameHeard, onPacket}
 use Rattle.source.specs.Changes.{changeOf}
@@ -38,8 +40,9 @@ use Rattle.port.specs.declared.Event.{Event}
 use Rattle.port.specs.Memory.{stateOf, factsOf, runningIn, noCrc}
 use Rattle.port.specs.Entering.{enter}
 use Rattle.port.specs.Steps.{turn, happens, resent, nothingDone, eventOf}
-use Rattle.port.specs.Packets.{firstObject, heardAs, requested, askedBy, isSoftReset, crcFor, hearing, otherPacket, newPacket, byMeaning, messageOf, packetOf}
+use Rattle.port.specs.Packets.{firstObject, meaningIn, heardAs, requested, askedBy, isSoftReset, crcFor, hearing, otherPacket, newPacket, byMeaning, messageOf, packetOf}
 use Rattle.port.specs.Calls.{Call, event, packet, step}
+use Rattle.portclaims.specs.Awaited.{awaitsRequest}
 use Rattle.portclaims.specs.Between.{implies}
 use Rattle.portclaims.proofs.Groups.{oneStimulusOf}
 use Rattle.portclaims.proofs.Truth.{true-not-false, then, and, first, second, not-true, not-false}
@@ -47,10 +50,6 @@ use Rattle.portclaims.proofs.Led.{turn-state, led-state, at-way, is-sam
 use Rattle.portclaims.proofs.Ways as Ways
 use Rattle.portclaims.proofs.Tables as Tables
 use Rattle.portclaims.proofs.Shapes.{Rule, by-attach, by-detach, by-hard-reset, by-acknowledgement, by-failure, by-sender-response, by-source-capability, by-ps-hard-reset, by-supply-ready, by-yes, by-no, by-offer, New, fitIn, Shape, refused, idle, again, led, heard, shape}
-
--- "awaited (Offer, Discovery) or in Ready"
-abbrev pub awaitsRequest : State → Bool
-awaitsRequest s = same s State.Offer || (same s State.Discovery || same s State.Ready)
 
 -- the bytes s are a new Request to port p that comes awaited or in Ready and fits the last offer put on the wire
 pub record FittingRequest (p : Port) (s : List ℕ) : Type 0 where
@@ -79,6 +78,52 @@ to-judge State.Soft e = true-not-false (sym e)
 to-judge State.Answering e = true-not-false (sym e)
 to-judge State.Hard e = true-not-false (sym e)
 to-judge State.Default e = true-not-false (sym e)
+
+listens-then : (s : State) → awaitsRequest s ≡ true → listens s ≡ true
+listens-then State.Offer e = refl
+listens-then State.Discovery e = refl
+listens-then State.Ready e = refl
+listens-then State.Detached e = true-not-false (sym e)
+listens-then State.Disabled e = true-not-false (sym e)
+listens-then State.Judge e = refl
+listens-then State.Accepting e = refl
+listens-then State.Moving e = refl
+listens-then State.Telling e = refl
+listens-then State.Declining e = refl
+listens-then State.Refusing e = refl
+listens-then State.Waiting e = refl
+listens-then State.Soft e = refl
+listens-then State.Answering e = refl
+listens-then State.Hard e = true-not-false (sym e)
+listens-then State.Default e = true-not-false (sym e)
+
+-- the same, part by part
+module _ (p : Port) (s : List ℕ) (n : ℕ) (f : Fields) (read : readOf s ≡ Reading.Message n f) (request : meaningIn n f ≡ Meaning.Request) where
+  pub fitting-request : isRepeat (p .channel) (f .«message_id») ≡ false → awaitsRequest (stateOf p) ≡ true → fits n (firstObject (partOf s)) (p .last) ≡ true → FittingRequest p s
+  fitting-request new awaited fit =
+      record {
+        objects = n;
+        fields = f;
+        new = record { read = read; listening = listens-then (stateOf p) awaited; meaning = request; fresh = rw new refl };
+        awaited = awaited;
+        fitting = fit;
+      }
+
+same-message : (m n : ℕ) (f g : Fields) → Reading.Message m f ≡ Reading.Message n g → (m ≡ n) × (f ≡ g)
+same-message m n f g e = (cc, cc)
+
+no-repeat : (b : Bool) → (b && true) ≡ false → b ≡ false
+no-repeat true e = e
+no-repeat false e = refl
+
+module _ (p : Port) (s : List ℕ) (n : ℕ) (f : Fields) (read : readOf s ≡ Reading.Message n f) (r : FittingRequest p s) where
+  pub its-parts : (isRepeat (p .channel) (f .«message_id») ≡ false) × (awaitsRequest (stateOf p) ≡ true) × (fits n (firstObject (partOf s)) (p .last) ≡ true)
+  its-parts =
+      let same = same-message (r .objects) n (r .fields) f (sym (r .new .read) ∙ read) in (
+        subst (λ g. isRepeat (p .channel) (g .«message_id») ≡ false) (same .1) (no-repeat (isRepeat (p .channel) (r .fields .«message_id»)) (r .new .fresh)),
+        r .awaited,
+        subst (λ m. fits m (firstObject (partOf s)) (p .last) ≡ true) (same .0) (r .fitting),
+      )
 
 module _ (p : Port) (s : List ℕ) (r : FittingRequest p s) where
   abbrev wanted : Asked

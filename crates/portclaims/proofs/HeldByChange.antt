@@ -1,6 +1,5 @@
 -- What happens to held power in an event is what the answer says: nothing; accepted, the larger of held and asked; in force, the accepted worth; given up, zero.
 -- Assumes nothing.
-use Prim.Native.Nat.{ℕ}
 use mathlib.Core.Path.{_≡_, refl, sym, ap, subst, _∙_}
 use mathlib.Core.Bool.{Bool, true, not}
 use lib.Dec.{T}

@@ -1,3 +1,4 @@
+pub mod Awaited
 pub mod Between
 pub mod Held
 pub mod Messages

@@ -3,10 +3,8 @@
 use Prim.Native.Nat.{ℕ, max, _+_, _<_, _≤_}
 use native.Mathlib.Omega.{arith}
 use mathlib.Core.Path.{_≡_, refl, sym, ap, subst, _∙_}
-use mathlib.Core.Bool.{Bool, true, false, not, cond, _&&_}
+use mathlib.Core.Bool.{true, false, not}
 use mathlib.Core.List.{List}
-use lib.Dec.{leb}
-use borrow.Author.Tests.{le-leb}
 use Rattle.message.specs.Types as Types
 use Rattle.outgoing.specs.Packets.{controlOf}
 use Rattle.power.specs.declared.Change.{Change}
@@ -17,20 +15,20 @@ use Rattle.port.specs.Memory.{stateOf}
 use Rattle.port.specs.Calls as Port
 use Rattle.portclaims.proofs.Truth.{true-not-false, and, not-false}
 use Rattle.portclaims.proofs.Led.{is-same}
-use Rattle.portclaims.proofs.AcceptExactly.{FittingRequest, comes-to-ask, asks-quietly}
-use Rattle.slot.specs.Load.{loadOf, approves}
-use Rattle.slot.specs.Answers.{hasAsked, judged}
+use Rattle.portclaims.proofs.AcceptExactly.{FittingRequest, comes-to-ask}
+use Rattle.slot.specs.Load.{loadOf}
+use Rattle.slot.specs.Answers.{judged}
 use Rattle.rack.specs.declared.Rack.{Rack}
-use Rattle.rack.specs.Ports.{at, portsIn, inRack, placeOf, loads, others, powerRule}
-use Rattle.rack.specs.Steps.{Happening, event, packet, newOffer, callOf, ownAnswer, answerAt, ifInRack, step}
-use Rattle.rack.proofs.Loads.{others-and-this, place-in}
+use Rattle.rack.specs.Ports.{at, portsIn, others, powerRule}
+use Rattle.rack.specs.Steps.{Happening, event, packet, newOffer, callOf, ownAnswer, answerAt, step}
+use Rattle.rack.proofs.Loads.{others-and-this}
 use Rattle.setup.specs.declared.SetUp.{SetUp}
 use Rattle.setup.specs.SetUps.{setting, goodSetUp}
 use Rattle.rackclaims.proofs.OwnSteps.{isAccepted, own, at-yes, at-no}
 use Rattle.rackclaims.proofs.Settling.{asks, asked-is, Settles, by-itself, granted, denied, settles}
 use Rattle.rackclaims.proofs.Neighbours.{answers-by-the-rule}
 use Rattle.rackclaims.proofs.GoodSetUps.{share-within-limit}
-use Rattle.rackclaims.proofs.Reached.{Reached, ports-are}
+use Rattle.rackclaims.proofs.Reached.{Reached, within-both, ports-are}
 
 -- an answer that accepts, and one that rejects: the message, the state, and what happens to held power
 pub record Accepts (a : Answer) : Type 0 where
@@ -78,13 +76,13 @@ module _ (u : SetUp) (good : goodSetUp u ≡ true) (r : Rack) (k : Reached u r) 
 
     -- THE CLAIM: what asks no more than the share is approved, whatever the other ports did
     pub share-is-approved : asks (at r i .port) s ≤ setting u i .share → powerRule r i (asks (at r i .port) s) ≡ true
-    unfolding powerRule approves
+    unfolding powerRule
     share-is-approved h =
         let w = asks (at r i .port) s in
         let within : i < portsIn r = subst (λ n. i < n) (sym (ports-are u good r k)) here in
         let limit : w ≤ at r i .limit = omega (arith, h, k .limit i here, share-within-limit u good i here) in
         let supply : others r i + max (loadOf (at r i)) w ≤ r .supply = omega (arith, h, k .share i here, others-and-this r i within, k .fits) in
-        rw (le-leb w (at r i .limit) limit, le-leb (others r i + max (loadOf (at r i)) w) (r .supply) supply) refl
+        within-both (at r i) (others r i) (r .supply) w limit supply
 
     pub share-is-accepted : asks (at r i .port) s ≤ setting u i .share → Accepts (answerAt r i (packet s))
     share-is-accepted h = accept-where-approved (share-is-approved h)

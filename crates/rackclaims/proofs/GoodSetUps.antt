@@ -2,22 +2,18 @@
 use Prim.Native.Nat.{ℕ, zero, suc, _<_, _≤_}
 use native.Mathlib.Nat.{not-suc-le-zero, le-of-suc-le-suc}
 use native.Mathlib.Omega.{arith}
-use mathlib.Core.Path.{_≡_, refl, sym, ap, subst, _∙_}
+use mathlib.Core.Path.{_≡_, refl, sym, ap, _∙_}
 use mathlib.Core.Bool.{Bool, true, false, _&&_}
 use mathlib.Core.List.{List, [], _∷_, map}
 use lib.Dec.{eqb, leb, ltb}
-use lib.ListN.{length, getD, length-map, List·getD-eq-default}
+use lib.ListN.{length, getD, List·getD-eq-default}
 use borrow.Author.Tests.{leb-true, eqb-true, eqb-false, ltb-true, ltb-false}
-use Rattle.ground.specs.declared.Verdict.{Verdict}
-use Rattle.ground.specs.declared.Verdict.the-variants.{Fine, Refused}
-use Rattle.ground.specs.declared.Refusal.the-variants.{BadSetUp}
+use Rattle.ground.specs.declared.Verdict.the-variants.{Fine}
 use Rattle.offers.specs.Offers.{goodOffer}
 use Rattle.slot.specs.Load.{loadOf}
-use Rattle.rack.specs.declared.Rack.{Rack}
-use Rattle.rack.specs.Ports.{mostPorts, nobody, at, total, portsIn, loads}
+use Rattle.rack.specs.Ports.{mostPorts, nobody, at, portsIn, loads}
 use Rattle.rack.proofs.Totals.{total-same}
 use Rattle.setup.specs.declared.SetUp.{SetUp}
-use Rattle.setup.specs.declared.Setting.{Setting}
 use Rattle.setup.specs.SetUps.{least, largestLimit, noSetting, setting, goodSetting, everywhere, shares, goodCount, goodSupply, goodSetUp, slotOf, rackOf, judged, setUp}
 use Rattle.portclaims.proofs.Truth.{true-not-false, first, second}
 

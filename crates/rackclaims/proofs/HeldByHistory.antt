@@ -1,16 +1,14 @@
 -- The power that the program keeps for a port is the power that it holds by the history, from the set-up on and through any events: so claims about the history
 -- are claims about the program, and the other way round. Assumes nothing.
-use Prim.Native.Nat.{ℕ, suc, max, _+_, _*_, _<_, _≤_}
-use native.Mathlib.Omega.{arith}
+use Prim.Native.Nat.{ℕ, suc, _*_, _<_}
 use mathlib.Core.Path.{_≡_, refl, sym, ap, subst, _∙_}
-use mathlib.Core.Bool.{Bool, true, false, not, cond, _&&_}
+use mathlib.Core.Bool.{Bool, true, false, cond}
 use mathlib.Core.List.{List, [], _∷_}
-use lib.Dec.{eqb, leb}
-use lib.Seq.{getD-set-same}
-use borrow.Author.Tests.{eqb-true, eqb-false, le-leb}
+use lib.Dec.{eqb}
+use borrow.Author.Tests.{eqb-true, eqb-false}
 use Rattle.reading.specs.Reading.{partOf}
 use Rattle.offers.specs.declared.Offer.{Offer}
-use Rattle.offers.specs.Objects.{voltageOf, positionOf, operatingOf}
+use Rattle.offers.specs.Objects.{positionOf, operatingOf}
 use Rattle.offers.specs.Offers.{has, goodOffer}
 use Rattle.offers.specs.Requests.{fits, asked}
 use Rattle.power.specs.declared.Change.{Change}
@@ -28,21 +26,19 @@ use Rattle.portclaims.proofs.AcceptExactly.{FittingRequest, comes-to-ask, asks-
 use Rattle.slot.specs.declared.Slot.{Slot}
 use Rattle.slot.specs.Answers.{judged, settled}
 use Rattle.rack.specs.declared.Rack.{Rack}
-use Rattle.rack.specs.Ports.{nobody, at, portsIn, inRack, placeOf, others, put}
-use Rattle.rack.specs.Steps.{Happening, packet, callOf, answerAt, turned, ifInRack, step}
+use Rattle.rack.specs.Ports.{at, others}
+use Rattle.rack.specs.Steps.{Happening, packet, callOf, answerAt, step}
 use Rattle.rack.specs.Runs.{Happens, run}
-use Rattle.rack.proofs.Loads.{from-one}
 use Rattle.setup.specs.declared.SetUp.{SetUp}
 use Rattle.setup.specs.SetUps.{setting, goodSetUp, rackOf}
 use Rattle.rackclaims.specs.Wire.{lastOffer, worthOn}
-use Rattle.rackclaims.specs.History.{Entry, entryOf, history, Known, nothingYet, askedBy, acceptedAfter, after, noted, knownAfter, heldBy}
+use Rattle.rackclaims.specs.History.{entryOf, history, Known, nothingYet, askedBy, acceptedAfter, after, noted, knownAfter, heldBy}
 use Rattle.rackclaims.proofs.OwnSteps.{inHand, isAccepted, isInForce, own, at-yes, at-no}
 use Rattle.rackclaims.proofs.Settling.{asks, asked-is, Settles, by-itself, granted, denied, settles, Steady}
 use Rattle.rackclaims.proofs.WireOffers.{nothing-sent}
 use Rattle.rackclaims.proofs.Wired.{Wired, wired-first, wired-step}
-use Rattle.rackclaims.proofs.Neighbours.{others-stay}
 use Rattle.rackclaims.proofs.GoodSetUps.{set-up-so, first-offer-good}
-use Rattle.rackclaims.proofs.Reached.{Reached, reached-first, ports-are, step-reached, at-its-place}
+use Rattle.rackclaims.proofs.Reached.{Reached, reached-first, step-reached, at-its-place, comes-to-it, comes-to-another}
 use Rattle.rackclaims.proofs.AcceptExactly.{call-is}
 
 -- what the history knows of a port agrees with the port
@@ -143,35 +139,18 @@ module _ (s : Slot) (all supply : ℕ) (k : Steady (s .port)) (x : Known) (g : A
 -- ---- any events at any ports
 module _ (u : SetUp) (good : goodSetUp u ≡ true) (i : ℕ) (here : i < u .count) where
   module _ (r : Rack) (k : Reached u r) (x : Known) (g : Agrees (at r i .port) x) where
-    in-rack : inRack r (suc i) ≡ true
-    in-rack = let last : suc i ≤ portsIn r = subst (λ n. i < n) (sym (ports-are u good r k)) here in rw (le-leb 1 (suc i) (omega arith), le-leb (suc i) (portsIn r) last) refl
-
-    place-is : placeOf (suc i) ≡ i
-    place-is = omega arith
-
     -- it comes to this port
     to-this : (h : Happening) → Agrees (at (step r (suc i) h .rack) i .port) (after x (entryOf (record { number = suc i; happening = h }) (step r (suc i) h)))
-    unfolding step answerAt
+    unfolding answerAt
     to-this h =
-        rw (in-rack, place-is)
+        rw (comes-to-it u good r k i here h)
         (subst (λ t. Agrees (t .port) (noting x h (answerAt r i h))) (sym (at-its-place u good r k i here (answerAt r i h .port)))
         (agrees-after (at r i) (others r i) (r .supply) (k .steady i here) x g h))
-
-    -- it comes to another, or to none
-    elsewhere : (number : ℕ) (h : Happening) → (number ≡ suc i → ⊥) → (b : Bool) → inRack r number ≡ b → at (ifInRack b r (placeOf number) h .rack) i ≡ at r i
-    unfolding step
-    elsewhere number h d false e = refl
-    elsewhere number h d true e =
-        subst (λ b. at (ifInRack b r (placeOf number) h .rack) i ≡ at r i) e (others-stay r number i h (λ q. d (omega (arith, q, from-one r number e))))
-
-    stays : (e : Happens) → eqb (e .number) (suc i) ≡ false → at (step r (e .number) (e .happening) .rack) i ≡ at r i
-    unfolding step
-    stays e q = elsewhere (e .number) (e .happening) (eqb-false (e .number) (suc i) q) (inRack r (e .number)) refl
 
     by-test : (e : Happens) (b : Bool) → eqb (e .number) (suc i) ≡ b →
         Agrees (at (step r (e .number) (e .happening) .rack) i .port) (cond b (after x (entryOf e (step r (e .number) (e .happening)))) x)
     by-test e true q = subst (λ n. Agrees (at (step r n (e .happening) .rack) i .port) (after x (entryOf (record { number = n; happening = e .happening }) (step r n (e .happening))))) (sym (eqb-true (e .number) (suc i) q)) (to-this (e .happening))
-    by-test e false q = subst (λ t. Agrees (t .port) x) (sym (stays e q)) g
+    by-test e false q = subst (λ t. Agrees (t .port) x) (sym (comes-to-another u good r k i here (e .number) (e .happening) (eqb-false (e .number) (suc i) q))) g
 
     pub agrees-step : (e : Happens) → Agrees (at (step r (e .number) (e .happening) .rack) i .port) (noted (suc i) x (entryOf e (step r (e .number) (e .happening))))
     agrees-step e = by-test e (eqb (e .number) (suc i)) refl

@@ -12,3 +12,7 @@ pub mod SupplyHolds
 pub mod NothingLoose
 pub mod OneSetOfActions
 pub mod Witnesses
+pub mod AcceptOnTheWire
+pub mod PortsAreStepped
+pub mod RefusalsInOrder
+pub mod RepeatChangesNothing

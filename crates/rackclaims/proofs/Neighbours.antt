@@ -1,13 +1,12 @@
 -- An event at one port leaves every other port as it was, and acts on none of them: the actions are those of the port that it came to. What passes between
 -- ports is the power answer alone, and the others enter it through their loads alone. For any rack, any two ports. Assumes nothing.
 use Prim.Native.Nat.{ℕ, _<_}
-use mathlib.Core.Path.{_≡_, refl, sym, ap, subst, _∙_}
+use mathlib.Core.Path.{_≡_, refl, ap, _∙_}
 use mathlib.Core.Bool.{Bool, true, false, cond}
 use lib.Dec.{eqb}
 use lib.Seq.{getD-set-other, set-getD}
 use borrow.Author.Tests.{eqb-false}
 use Rattle.port.specs.declared.Port.{Port}
-use Rattle.slot.specs.declared.Slot.{Slot}
 use Rattle.slot.specs.Load.{loadOf}
 use Rattle.slot.specs.Answers.{hasAsked, judged, settled}
 use Rattle.rack.specs.declared.Rack.{Rack}

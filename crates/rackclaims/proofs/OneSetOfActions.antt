@@ -5,12 +5,11 @@ use mathlib.Core.Bool.{Bool, true, false}
 use mathlib.Core.List.{List}
 use Prim.Native.Nat.{ℕ}
 use Rattle.outgoing.specs.Packets.{noPacket}
-use Rattle.source.specs.declared.State.{State}
 use Rattle.source.specs.declared.Timer.{Timer}
 use Rattle.port.specs.declared.Supply.{Supply}
 use Rattle.port.specs.declared.Port.{Port}
 use Rattle.port.specs.declared.Answer.{Answer}
-use Rattle.port.specs.Memory.{stateOf, noCrc}
+use Rattle.port.specs.Memory.{noCrc}
 use Rattle.port.specs.Steps.{eventOf}
 use Rattle.port.specs.Calls.{packet, step}
 use Rattle.portclaims.proofs.AcceptExactly.{FittingRequest, comes-to-ask, asks-quietly}

@@ -3,9 +3,9 @@
 use Prim.Native.Nat.{ℕ, max, _≤_}
 use native.Mathlib.Nat.{le-refl}
 use native.Mathlib.Omega.{arith}
-use mathlib.Core.Path.{_≡_, refl, sym, ap, subst, _∙_}
+use mathlib.Core.Path.{_≡_, refl, sym, ap, _∙_}
 use mathlib.Core.Bool.{Bool, true, false, not, _&&_}
-use mathlib.Core.List.{List, [], _∷_}
+use mathlib.Core.List.{[], _∷_}
 use lib.Dec.{T}
 use Rattle.ground.specs.declared.Verdict.the-variants.{Fine}
 use Rattle.message.specs.Types as Types
@@ -35,15 +35,14 @@ use Rattle.port.specs.Entering.{enter}
 use Rattle.port.specs.Steps.{withChange, turn, happens, resent, nothingDone, eventOf}
 use Rattle.port.specs.Packets.{heardAs, askedBy, isSoftReset, crcFor, hearing}
 use Rattle.port.specs.Calls.{Call, step}
-use Rattle.portclaims.specs.Between.{oneOf, implies, Between}
+use Rattle.portclaims.specs.Between.{oneOf, implies}
 use Rattle.portclaims.specs.Held.{heldAfter}
 use Rattle.portclaims.proofs.Groups.{oneWayOf, clears}
 use Rattle.portclaims.proofs.Truth.{true-not-false, so, holds, then, first, second, not-true, not-false}
 use Rattle.portclaims.proofs.Ways as Ways
 use Rattle.portclaims.proofs.Tables as Tables
-use Rattle.portclaims.proofs.Led.{turn-state, led-state, at-way, is-same}
+use Rattle.portclaims.proofs.Led.{turn-state, led-state, at-way}
 use Rattle.portclaims.proofs.Shapes.{Rule, by-attach, by-detach, by-hard-reset, by-acknowledgement, by-failure, by-sender-response, by-source-capability, by-ps-hard-reset, by-supply-ready, by-yes, by-no, by-offer, fitIn, Shape, refused, idle, again, led, heard, shape}
-use Rattle.portclaims.proofs.HeldByChange.{held-by-change}
 
 -- a request is accepted and not yet in force
 abbrev pub inHand : State → Bool

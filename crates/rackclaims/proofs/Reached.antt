@@ -1,32 +1,30 @@
 -- What holds of every rack that an accepted set-up and any list of events lead to: its ports are steady, none holds more than its limit, and all together take
 -- no more than the supply. Assumes nothing.
-use Prim.Native.Nat.{ℕ, max, _+_, _<_, _≤_}
+use Prim.Native.Nat.{ℕ, suc, max, _+_, _<_, _≤_}
 use native.Mathlib.Nat.{le-trans, le-of-eq}
 use native.Mathlib.Omega.{arith}
 use mathlib.Core.Path.{_≡_, refl, sym, ap, subst, _∙_}
-use mathlib.Core.Bool.{Bool, true, false, _&&_}
+use mathlib.Core.Bool.{Bool, true, false}
 use mathlib.Core.List.{List, [], _∷_}
 use lib.Dec.{leb, eqb}
 use lib.ListN.{length, length-set, length-map}
 use lib.Seq.{getD-set-same}
-use borrow.Author.Tests.{leb-true, eqb-true, eqb-false}
-use Rattle.source.specs.States.{same}
+use borrow.Author.Tests.{leb-true, le-leb, eqb-true, eqb-false}
 use Rattle.port.specs.declared.Answer.{Answer}
 use Rattle.port.specs.declared.Port.{Port}
 use Rattle.port.specs.Calls.{Call, packet}
 use Rattle.portclaims.proofs.Truth.{first, second}
 use Rattle.portclaims.proofs.AcceptExactly.{comes-to-ask, asks-quietly}
-use Rattle.portclaims.proofs.HeldByChange.{held-by-change}
 use Rattle.slot.specs.declared.Slot.{Slot}
 use Rattle.slot.specs.Load.{loadOf, approves}
 use Rattle.slot.specs.Answers.{judged, settled}
 use Rattle.port.specs.Calls as Port
 use Rattle.rack.specs.declared.Rack.{Rack}
 use Rattle.rack.specs.Ports.{nobody, at, portsIn, inRack, placeOf, total, loads, others, put}
-use Rattle.rack.specs.Steps.{Happening, callOf, answerAt, ifInRack, step}
+use Rattle.rack.specs.Steps.{Happening, callOf, answerAt, turned, ifInRack, step}
 use Rattle.rack.specs.Runs.{Happens, run}
 use Rattle.rack.proofs.Totals.{total-change}
-use Rattle.rack.proofs.Loads.{others-and-this, place-in}
+use Rattle.rack.proofs.Loads.{others-and-this, from-one, place-in}
 use Rattle.setup.specs.declared.SetUp.{SetUp}
 use Rattle.setup.specs.SetUps.{setting, goodSetUp, rackOf}
 use Rattle.rackclaims.proofs.OwnSteps.{at-yes, at-no}
@@ -54,6 +52,10 @@ module _ (s : Slot) (others supply : ℕ) where
   pub within-supply : (w : ℕ) → approves s others supply w ≡ true → others + max (loadOf s) w ≤ supply
   unfolding approves
   within-supply w e = leb-true _ _ (second (leb w (s .limit)) _ e)
+
+  pub within-both : (w : ℕ) → w ≤ s .limit → others + max (loadOf s) w ≤ supply → approves s others supply w ≡ true
+  unfolding approves
+  within-both w h l = rw (le-leb w (s .limit) h, le-leb (others + max (loadOf s) w) supply l) refl
 
 module _ (s : Slot) (others supply : ℕ) (k : Steady (s .port)) where
   -- what it holds is no more than before, or what the rule approved
@@ -149,6 +151,26 @@ module _ (u : SetUp) (good : goodSetUp u ≡ true) where
     -- a number in the rack is that of a port
     pub place-below : (number : ℕ) → inRack r number ≡ true → placeOf number < u .count
     place-below number e = subst (λ n. placeOf number < n) ports-are (place-in r number e)
+
+    -- ---- an event, seen from the port at a place: it comes to this port, or to another or none
+    module _ (i : ℕ) (here : i < u .count) where
+      in-rack : inRack r (suc i) ≡ true
+      in-rack = let last : suc i ≤ portsIn r = subst (λ n. i < n) (sym ports-are) here in rw (le-leb 1 (suc i) (omega arith), le-leb (suc i) (portsIn r) last) refl
+
+      place-is : placeOf (suc i) ≡ i
+      place-is = omega arith
+
+      pub comes-to-it : (h : Happening) → step r (suc i) h ≡ turned r i (answerAt r i h)
+      unfolding step
+      comes-to-it h = rw (in-rack, place-is) refl
+
+      elsewhere : (number : ℕ) (h : Happening) → (number ≡ suc i → ⊥) → (b : Bool) → inRack r number ≡ b → at (ifInRack b r (placeOf number) h .rack) i ≡ at r i
+      elsewhere number h d false e = refl
+      elsewhere number h d true e = put-other r (placeOf number) i _ (λ q. d (omega (arith, q, from-one r number e)))
+
+      pub comes-to-another : (number : ℕ) (h : Happening) → (number ≡ suc i → ⊥) → at (step r number h .rack) i ≡ at r i
+      unfolding step
+      comes-to-another number h d = elsewhere number h d (inRack r number) refl
 
     by-number : (number : ℕ) (h : Happening) (b : Bool) → inRack r number ≡ b → Reached u (ifInRack b r (placeOf number) h .rack)
     by-number number h true e = turned-reached (placeOf number) h (place-below number e)

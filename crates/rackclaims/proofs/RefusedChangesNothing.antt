@@ -1,7 +1,7 @@
 -- A refused event, 9 included, leaves the whole rack as it was: every port, all held power, and nothing is done. For every rack. Assumes nothing.
 use Prim.Native.Nat.{ℕ}
-use mathlib.Core.Path.{_≡_, refl, sym, ap, subst, _∙_}
-use mathlib.Core.Bool.{Bool, true, false, not, cond}
+use mathlib.Core.Path.{_≡_, refl, sym, ap, _∙_}
+use mathlib.Core.Bool.{Bool, true, false, not}
 use Rattle.ground.specs.declared.Refusal.{Refusal}
 use Rattle.ground.specs.declared.Verdict.{Verdict}
 use Rattle.ground.specs.declared.Verdict.the-variants.{Fine, Refused}
@@ -9,21 +9,19 @@ use Rattle.power.specs.declared.Change.{Change}
 use Rattle.source.specs.declared.State.{State}
 use Rattle.source.specs.States.{same}
 use Rattle.port.specs.declared.Answer.{Answer}
-use Rattle.port.specs.declared.Actions.{Actions}
 use Rattle.port.specs.Memory.{stateOf, noActions}
 use Rattle.portclaims.proofs.Truth.{true-not-false, second}
 use Rattle.portclaims.proofs.RefusedChangesNothing.{the-same-port, no-action, nothing-held-or-given-up}
-use Rattle.slot.specs.Answers.{hasAsked, judged, settled}
+use Rattle.slot.specs.Answers.{hasAsked, judged}
 use Rattle.rack.specs.declared.Rack.{Rack}
-use Rattle.rack.specs.declared.RackAnswer.{RackAnswer}
-use Rattle.rack.specs.Ports.{at, inRack, placeOf, others, put, powerRule}
+use Rattle.rack.specs.Ports.{at, inRack, placeOf}
 use Rattle.rack.specs.Steps.{Happening, callOf, ownAnswer, answerAt, turned, refusedBy, ifInRack, step}
 use Rattle.rackclaims.proofs.OwnSteps.{at-yes, at-no}
 use Rattle.rackclaims.proofs.Settling.{judge-is}
 use Rattle.rackclaims.proofs.Neighbours.{put-same, answers-by-itself, answers-by-the-rule}
 
 -- the power answer is never refused
-fine-in-judge : (yes′ : Bool) (a : Answer) → stateOf (a .port) ≡ State.Judge → judged yes′ a .verdict ≡ Fine
+pub fine-in-judge : (yes′ : Bool) (a : Answer) → stateOf (a .port) ≡ State.Judge → judged yes′ a .verdict ≡ Fine
 unfolding judged
 fine-in-judge true a e = at-yes (a .port) e .fine
 fine-in-judge false a e = at-no (a .port) e .fine

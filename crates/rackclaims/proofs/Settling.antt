@@ -1,13 +1,12 @@
 -- What a port's answer is in the rack: its own, where it has not asked the power rule; where it has, a new Request came awaited or in Ready and fits the last
 -- offer, and the answer is the one to yes or to no, as the rule says. And what is kept of the port by all three. Assumes nothing.
-use Prim.Native.Nat.{ℕ, max, _≤_}
+use Prim.Native.Nat.{ℕ, _≤_}
 use native.Mathlib.Omega.{arith}
 use mathlib.Core.Path.{_≡_, refl, sym, ap, subst, _∙_}
-use mathlib.Core.Bool.{Bool, true, false, not, cond, _&&_}
+use mathlib.Core.Bool.{Bool, true, false, not, cond}
 use mathlib.Core.List.{List}
 use Rattle.reading.specs.Reading.{partOf}
 use Rattle.offers.specs.Requests.{asked}
-use Rattle.power.specs.declared.Change.{Change}
 use Rattle.source.specs.declared.State.{State}
 use Rattle.source.specs.States.{same}
 use Rattle.port.specs.declared.Event.{Event}
@@ -19,14 +18,14 @@ use Rattle.port.specs.Packets.{firstObject}
 use Rattle.port.specs.Calls.{Call, event, packet, step}
 use Rattle.portclaims.specs.Between.{Between}
 use Rattle.portclaims.specs.Held.{heldAfter}
-use Rattle.portclaims.proofs.Truth.{true-not-false, and, first, second, not-true, not-false}
+use Rattle.portclaims.proofs.Truth.{true-not-false, and, second, not-false}
 use Rattle.portclaims.proofs.Between.{step-keeps, at-first}
 use Rattle.portclaims.proofs.HeldByChange.{held-by-change}
 use Rattle.portclaims.proofs.AcceptExactly.{FittingRequest, comes-to-ask, AskedBy, by-packet, asks-only-so}
 use Rattle.slot.specs.declared.Slot.{Slot}
 use Rattle.slot.specs.Load.{approves}
 use Rattle.slot.specs.Answers.{hasAsked, judged, settled}
-use Rattle.rackclaims.proofs.OwnSteps.{inHand, Own, own, no-more, at-yes, at-no}
+use Rattle.rackclaims.proofs.OwnSteps.{inHand, own, no-more, at-yes, at-no}
 use Rattle.offers.specs.declared.Offer.{Offer}
 
 -- what a Request in the bytes s asks of a port, in units

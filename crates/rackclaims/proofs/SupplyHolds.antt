@@ -8,7 +8,6 @@ use mathlib.Core.Bool.{true}
 use mathlib.Core.List.{List}
 use Rattle.ground.specs.declared.Verdict.the-variants.{Fine}
 use Rattle.slot.specs.Load.{loadOf}
-use Rattle.rack.specs.declared.Rack.{Rack}
 use Rattle.rack.specs.Ports.{at, total, loads}
 use Rattle.rack.specs.Runs.{Happens, run}
 use Rattle.rack.proofs.Totals.{total-same, total-larger}

@@ -55,11 +55,11 @@ object-left n k l h = rw (drop-drop 2 k (take n l), drop-drop 2 k l, word-left n
 lowest : (e o i p r d t : ℕ) → t < 32 → (e * 32768 + o * 4096 + i * 512 + p * 256 + r * 64 + d * 32 + t * 1) / 1 % 32 ≡ t
 lowest e o i p r d t h = omega arith
 
-type-packed : (f : Fields) (n : ℕ) → fieldsOf (headerOf f n) .«message_type» ≡ f .«message_type» % 32
+pub type-packed : (f : Fields) (n : ℕ) → fieldsOf (headerOf f n) .«message_type» ≡ f .«message_type» % 32
 unfolding fieldsOf headerOf
 type-packed f n = lowest _ _ _ _ _ _ (f .«message_type» % 32) (omega arith)
 
-header-on-wire : (type id : ℕ) (objects : List ℕ) (count : ℕ) → wordOf (onWire (dataOf type id objects count)) ≡ headerOf (ourFields type id) count
+pub header-on-wire : (type id : ℕ) (objects : List ℕ) (count : ℕ) → wordOf (onWire (dataOf type id objects count)) ≡ headerOf (ourFields type id) count
 unfolding dataOf
 header-on-wire type id objects count = word-left (2 + 4 * (count % 8)) 0 _ (omega arith) ∙ word-of-two (headerOf (ourFields type id) count) _
 

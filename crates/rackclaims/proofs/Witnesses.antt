@@ -1,6 +1,6 @@
 -- A worked case for each claim that has a condition, so that none of them speaks of nothing: the rack of the night desk's example 8, brought there by events
 -- alone. The checker computes each. Assumes nothing.
-use Prim.Native.Nat.{ℕ, suc, max, _+_}
+use Prim.Native.Nat.{_+_}
 use mathlib.Core.Path.{_≡_, refl}
 use mathlib.Core.Bool.{true, false}
 use mathlib.Core.List.{List, [], _∷_, _++_}
@@ -13,27 +13,24 @@ use Rattle.meaning.specs.Meaning.{meaningOf}
 use Rattle.reading.specs.Reading.{readOf, readingTried, partOf}
 use Rattle.offers.specs.Offers.{objectAt, goodObject, goodFrom, goodOffer}
 use Rattle.offers.specs.Requests.{fits, asked, fitOf, isHonoured}
-use Rattle.outgoing.specs.Packets.{onWire, controlOf, dataOf}
+use Rattle.outgoing.specs.Packets.{controlOf, dataOf}
 use Rattle.channel.specs.Channel.{pendingId, isRepeat, ended, again, heard, sends}
 use Rattle.channel.specs.Outcomes.{onGoodCrc, onExpiry}
 use Rattle.power.specs.declared.Change.{Change}
 use Rattle.power.specs.Power.{changed, standingOf}
-use Rattle.source.specs.declared.State.{State}
-use Rattle.source.specs.States.{same}
 use Rattle.source.specs.Leads.{leads}
 use Rattle.source.specs.Packets.{onPacket}
 use Rattle.source.specs.Changes.{changeOf}
 use Rattle.port.specs.declared.Event.{Event}
-use Rattle.port.specs.Memory.{stateOf}
 use Rattle.port.specs.Entering.{enter}
 use Rattle.port.specs.Steps.{turn, happens, acknowledged, failed, resent, byOutcome, nothingDone, eventOf, newOfferOf}
 use Rattle.port.specs.Packets.{firstObject, meaningIn, heardAs, newPacket, otherPacket, goodCrcHeard, byMeaning, messageOf, packetOf}
 use Rattle.port.specs.Calls as Port
 use Rattle.portclaims.proofs.AcceptExactly.{FittingRequest}
-use Rattle.slot.specs.Load.{loadOf, approves}
+use Rattle.slot.specs.Load.{approves}
 use Rattle.slot.specs.Answers.{hasAsked, judged, settled}
 use Rattle.rack.specs.declared.Rack.{Rack}
-use Rattle.rack.specs.Ports.{at, portsIn, total, others, powerRule}
+use Rattle.rack.specs.Ports.{at, others, powerRule}
 use Rattle.rack.specs.Steps.{event, packet, ownAnswer, answerAt, step}
 use Rattle.rack.specs.Runs.{Happens, run}
 use Rattle.setup.specs.SetUps.{goodSetting, goodSetUp, setUp}
@@ -78,31 +75,32 @@ pub requests :
     × FittingRequest (at desk 2 .port) Desk.for30000
     × (asks (at desk 2 .port) Desk.for30000 ≡ 30000)
 unfolding Desk.rackAfter run history heldBy step answerAt settled judged approves powerRule others setUp goodSetUp goodSetting goodOffer goodFrom goodObject objectAt isOffer Port.step eventOf packetOf readOf readingTried refuseIf wordOf fieldsOf objectsOf partOf isChunked messageOf meaningIn meaningOf byMeaning otherPacket newPacket goodCrcHeard byOutcome onGoodCrc onExpiry pendingId isRepeat acknowledged failed resent nothingDone happens leads onPacket changeOf heardAs firstObject fitOf fits asked turn enter changed standingOf isHonoured ended again heard sends controlOf dataOf headerOf bytesOf newOfferOf
-requests =
-    (record {
-      objects = 1;
-      fields = record { extended = false; «message_id» = 0; «power_role» = 0; revision = 2; «data_role» = 0; «message_type» = 2 };
-      new = record { read = refl; listening = refl; meaning = refl; fresh = refl };
-      awaited = refl;
-      fitting = refl;
-    },
-    record {
-      objects = 1;
-      fields = record { extended = false; «message_id» = 0; «power_role» = 0; revision = 2; «data_role» = 0; «message_type» = 2 };
-      new = record { read = refl; listening = refl; meaning = refl; fresh = refl };
-      awaited = refl;
-      fitting = refl;
-    },
-    refl,
-    refl,
-    record {
-      objects = 1;
-      fields = record { extended = false; «message_id» = 0; «power_role» = 0; revision = 2; «data_role» = 0; «message_type» = 2 };
-      new = record { read = refl; listening = refl; meaning = refl; fresh = refl };
-      awaited = refl;
-      fitting = refl;
-    },
-    refl)
+requests = (
+  record {
+    objects = 1;
+    fields = record { extended = false; «message_id» = 0; «power_role» = 0; revision = 2; «data_role» = 0; «message_type» = 2 };
+    new = record { read = refl; listening = refl; meaning = refl; fresh = refl };
+    awaited = refl;
+    fitting = refl;
+  },
+  record {
+    objects = 1;
+    fields = record { extended = false; «message_id» = 0; «power_role» = 0; revision = 2; «data_role» = 0; «message_type» = 2 };
+    new = record { read = refl; listening = refl; meaning = refl; fresh = refl };
+    awaited = refl;
+    fitting = refl;
+  },
+  refl,
+  refl,
+  record {
+    objects = 1;
+    fields = record { extended = false; «message_id» = 0; «power_role» = 0; revision = 2; «data_role» = 0; «message_type» = 2 };
+    new = record { read = refl; listening = refl; meaning = refl; fresh = refl };
+    awaited = refl;
+    fitting = refl;
+  },
+  refl,
+)
 
 -- AcceptExactly.accepted-only-so, Neighbours: an answer that accepts, a port that has asked, and one that has not
 pub answers :

@@ -17,6 +17,10 @@ use Rattle.port.specs.Packets.{firstObject}
 unfoldable pub isOffer : List ℕ → Bool
 isOffer m = eqb (fieldsOf (wordOf m) .«message_type») Types.SourceCapabilities && ltb 0 (objectsOf (wordOf m))
 
+-- whether they are an Accept: of its type, and without objects
+unfoldable pub isAccept : List ℕ → Bool
+isAccept m = eqb (fieldsOf (wordOf m) .«message_type») Types.Accept && eqb (objectsOf (wordOf m)) 0
+
 -- the last offer put on the wire, after one more transmission
 abbrev pub lastOffer : Packet → List ℕ → List ℕ
 lastOffer m before = cond (isOffer (onWire m)) (onWire m) before

@@ -2,7 +2,7 @@
 -- 30,000 <= share <= limit <= 200,000, shares adding to at most the supply, and a good first offer for each port."
 use Prim.Native.Nat.{ℕ, zero, suc}
 use mathlib.Core.Bool.{Bool, true, false, _&&_}
-use mathlib.Core.List.{List, [], map}
+use mathlib.Core.List.{[], map}
 use lib.Dec.{leb}
 use lib.ListN.{getD, replicate}
 use Rattle.ground.specs.declared.Refusal.the-variants.{BadSetUp}

@@ -1,5 +1,4 @@
 use borrow.Author.Needs.{needs}
-use mathlib.Core.Path.{_∙_}
 use Rattle.rack.proofs.Loads.{all-but-this, less-than-all}
 use Rattle.rack.proofs.Rack.others.Statement.{statement}
 use Rattle.rack.proofs.Rack.others.Tie as tie
