@@ -27,7 +27,7 @@ use Rattle.port.specs.Packets.{firstObject, meaningIn}
 use Rattle.port.specs.Calls as Port
 use Rattle.portclaims.specs.Awaited.{awaitsRequest}
 use Rattle.portclaims.specs.Messages.{Transmits, Made}
-use Rattle.portclaims.proofs.RepeatChangesNothing.{onlyGoodCrc, aside}
+use Rattle.portclaims.specs.Repeats.{onlyGoodCrc, aside}
 use Rattle.portclaims.proofs.AcceptExactly.{fitting-request, its-parts}
 use Rattle.portclaims.proofs.Transmissions.{transmits, what-is-pending-was-made}
 use Rattle.rack.specs.declared.Rack.{Rack}
@@ -43,7 +43,8 @@ use Rattle.rackclaims.proofs.SupplyHolds.{reached}
 use Rattle.rackclaims.proofs.AcceptExactly.{AcceptedBy, by-request, accept-where-approved}
 use Rattle.rackclaims.proofs.AcceptOnTheWire.{accept-is-sent, sent-only-so}
 use Rattle.rackclaims.proofs.RepeatChangesNothing as Repeat
-use Rattle.rackclaims.proofs.PortsAreStepped.{Leads, a-port-is-stepped}
+use Rattle.rackclaims.specs.Leads.{Leads}
+use Rattle.rackclaims.proofs.PortsAreStepped.{a-port-is-stepped}
 use Rattle.demands.proofs.WrittenReadsBack as Written
 use Rattle.demands.proofs.ReadWritesBack as Read
 

@@ -4,45 +4,21 @@ use Prim.Native.Nat.{ℕ}
 use mathlib.Core.Path.{_≡_, refl}
 use mathlib.Core.Bool.{Bool, true, false, cond}
 use mathlib.Core.List.{List}
-use Rattle.ground.specs.declared.Verdict.the-variants.{Fine}
 use Rattle.message.specs.declared.Fields.{Fields}
 use Rattle.meaning.specs.declared.Meaning.{Meaning}
 use Rattle.reading.specs.declared.Reading.{Reading}
 use Rattle.reading.specs.Reading.{readOf}
 use Rattle.offers.specs.declared.Fit.{Fit}
-use Rattle.outgoing.specs.Packets.{noPacket}
 use Rattle.channel.specs.Channel.{isRepeat}
-use Rattle.power.specs.declared.Change.{Change}
 use Rattle.source.specs.declared.Timer.the-variants.{NoTimer}
 use Rattle.source.specs.States.{same, listens}
-use Rattle.port.specs.declared.Supply.the-variants.{Unchanged}
 use Rattle.port.specs.declared.GoodCrc.{GoodCrc}
 use Rattle.port.specs.declared.Port.{Port}
-use Rattle.port.specs.declared.Answer.{Answer}
 use Rattle.port.specs.Memory.{stateOf}
 use Rattle.port.specs.Steps.{nothingDone}
 use Rattle.port.specs.Packets.{meaningIn, crcFor, otherPacket, byMeaning, messageOf, packetOf}
+use Rattle.portclaims.specs.Repeats.{onlyGoodCrc, aside}
 use Rattle.portclaims.proofs.Shapes.{fitIn}
-
--- the same port, and nothing done but a GoodCRC
-abbrev pub onlyGoodCrc : Fields → Port → Answer
-onlyGoodCrc f p =
-    record {
-      verdict = Fine;
-      port = p;
-      actions = record { «good_crc» = crcFor f; stop = NoTimer; transmit = noPacket; «hard_reset» = false; supply = Unchanged; start = NoTimer };
-      held = Change.Nothing;
-    }
-
--- "Soft_Reset and GoodCRC aside"
-abbrev pub aside : Meaning → Bool
-aside Meaning.Unsupported = false
-aside Meaning.GoodCrc = true
-aside Meaning.Reply = false
-aside Meaning.GetSourceCap = false
-aside Meaning.SoftReset = true
-aside Meaning.Quiet = false
-aside Meaning.Request = false
 
 either-way : (b : Bool) → cond b NoTimer NoTimer ≡ NoTimer
 either-way true = refl

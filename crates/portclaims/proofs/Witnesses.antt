@@ -39,7 +39,7 @@ use Rattle.port.specs.Packets.{firstObject, meaningIn, heardAs, newPacket, othe
 use Rattle.port.specs.Calls.{Call, event, packet, newOffer, step, run}
 use Rattle.portclaims.proofs.Shapes.{New}
 use Rattle.portclaims.proofs.AcceptExactly.{FittingRequest}
-use Rattle.portclaims.proofs.RepeatChangesNothing.{aside}
+use Rattle.portclaims.specs.Repeats.{aside}
 use Rattle.portclaims.proofs.SlipsOfTheOldFirmware.{answersSoftReset}
 
 -- the objects 5 V 3 A and 9 V 3 A

@@ -3,3 +3,4 @@ pub mod Between
 pub mod Held
 pub mod Messages
 pub mod OfferCount
+pub mod Repeats

@@ -2,8 +2,7 @@
 // port and what comes to it, and hands back the next rack with the port's actions, or a refusal and the
 // very same rack. It promises each answer by the port's rules and the power rule, for every rack.
 ghost use mathlib.Core.Path.{_≡_};
-ghost use Prim.Native.Nat.{_<_, min};
-ghost use Rattle.ground.specs.declared.Refusal.{Refusal};
+ghost use Prim.Native.Nat.{_<_};
 ghost use Rattle.rack.specs.Ports.{mostPorts, portsIn, inRack, at, loads, others, put};
 ghost use Rattle.rack.specs.Steps.{event, packet, newOffer, turned, refusedBy, step};
 ghost use Rattle.slot.specs.Answers.{settled};

@@ -16,14 +16,10 @@ use Rattle.rack.specs.Steps as Rack
 use Rattle.rack.specs.Runs as Runs
 use Rattle.setup.specs.declared.SetUp.{SetUp}
 use Rattle.setup.specs.SetUps.{setting, goodSetUp, rackOf}
+use Rattle.rackclaims.specs.Leads.{Leads}
 use Rattle.rackclaims.proofs.Neighbours.{answers-by-itself, answers-by-the-rule}
 use Rattle.rackclaims.proofs.GoodSetUps.{set-up-so}
 use Rattle.rackclaims.proofs.Reached.{Reached, reached-first, step-reached, at-its-place, comes-to-it, comes-to-another}
-
--- some calls lead from port p to port q
-pub record Leads (p q : Port) : Type 0 where
-  pub calls : List Call
-  pub there : run p calls ≡ q
 
 run-more : (p : Port) (cs : List Call) (c : Call) → run p (cs ++ (c ∷ [])) ≡ step (run p cs) c .port
 run-more p [] c = refl

@@ -13,7 +13,8 @@ use Rattle.source.specs.States.{same, listens}
 use Rattle.port.specs.Memory.{stateOf}
 use Rattle.port.specs.Packets.{meaningIn}
 use Rattle.port.specs.Calls as Port
-use Rattle.portclaims.proofs.RepeatChangesNothing.{onlyGoodCrc, aside, repeat-changes-nothing}
+use Rattle.portclaims.specs.Repeats.{onlyGoodCrc, aside}
+use Rattle.portclaims.proofs.RepeatChangesNothing.{repeat-changes-nothing}
 use Rattle.rack.specs.declared.Rack.{Rack}
 use Rattle.rack.specs.Ports.{at}
 use Rattle.rack.specs.Steps.{packet, ownAnswer, answerAt, turned, step}

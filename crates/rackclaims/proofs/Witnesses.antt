@@ -1,15 +1,19 @@
 -- A worked case for each claim that has a condition, so that none of them speaks of nothing: the rack of the night desk's example 8, brought there by events
 -- alone. The checker computes each. Assumes nothing.
-use Prim.Native.Nat.{_+_}
-use mathlib.Core.Path.{_≡_, refl}
-use mathlib.Core.Bool.{true, false}
+use Prim.Native.Nat.{ℕ}
+use mathlib.Core.Path.{_≡_, refl, sym, ap, subst}
+use mathlib.Core.Bool.{Bool, true, false}
 use mathlib.Core.List.{List, [], _∷_, _++_}
+use lib.Dec.{eqb}
+use borrow.Author.Tests.{eqb-true, eqb-false}
 use Rattle.ground.specs.declared.Refusal.the-variants.{NotAwaited, NotInRack, BadSetUp}
 use Rattle.ground.specs.declared.Verdict.the-variants.{Fine, Refused}
 use Rattle.ground.specs.Refusals.{refuseIf}
+use Rattle.message.specs.declared.Fields.{Fields}
 use Rattle.message.specs.Header.{fieldsOf, objectsOf, headerOf}
 use Rattle.message.specs.Bytes.{wordOf, isChunked, bytesOf}
 use Rattle.meaning.specs.Meaning.{meaningOf}
+use Rattle.reading.specs.declared.Reading.{Reading}
 use Rattle.reading.specs.Reading.{readOf, readingTried, partOf}
 use Rattle.offers.specs.Offers.{objectAt, goodObject, goodFrom, goodOffer}
 use Rattle.offers.specs.Requests.{fits, asked, fitOf, isHonoured}
@@ -18,19 +22,23 @@ use Rattle.channel.specs.Channel.{pendingId, isRepeat, ended, again, heard, sen
 use Rattle.channel.specs.Outcomes.{onGoodCrc, onExpiry}
 use Rattle.power.specs.declared.Change.{Change}
 use Rattle.power.specs.Power.{changed, standingOf}
+use Rattle.source.specs.declared.State.{State}
+use Rattle.source.specs.States.{listens}
 use Rattle.source.specs.Leads.{leads}
 use Rattle.source.specs.Packets.{onPacket}
 use Rattle.source.specs.Changes.{changeOf}
 use Rattle.port.specs.declared.Event.{Event}
+use Rattle.port.specs.Memory.{stateOf}
 use Rattle.port.specs.Entering.{enter}
 use Rattle.port.specs.Steps.{turn, happens, acknowledged, failed, resent, byOutcome, nothingDone, eventOf, newOfferOf}
 use Rattle.port.specs.Packets.{firstObject, meaningIn, heardAs, newPacket, otherPacket, goodCrcHeard, byMeaning, messageOf, packetOf}
 use Rattle.port.specs.Calls as Port
+use Rattle.portclaims.specs.Repeats.{aside}
 use Rattle.portclaims.proofs.AcceptExactly.{FittingRequest}
-use Rattle.slot.specs.Load.{approves}
+use Rattle.slot.specs.Load.{loadOf, approves}
 use Rattle.slot.specs.Answers.{hasAsked, judged, settled}
 use Rattle.rack.specs.declared.Rack.{Rack}
-use Rattle.rack.specs.Ports.{at, others, powerRule}
+use Rattle.rack.specs.Ports.{at, portsIn, others, powerRule}
 use Rattle.rack.specs.Steps.{event, packet, ownAnswer, answerAt, step}
 use Rattle.rack.specs.Runs.{Happens, run}
 use Rattle.setup.specs.SetUps.{goodSetting, goodSetUp, setUp}
@@ -38,6 +46,11 @@ use Rattle.rackclaims.specs.Wire.{isOffer}
 use Rattle.rackclaims.specs.History.{history, heldBy}
 use Rattle.rackclaims.specs.NightDesk as Desk
 use Rattle.rackclaims.proofs.Settling.{asks}
+use Rattle.rackclaims.proofs.Neighbours.{others-stay}
+
+-- the fields of a receiver's first Request
+abbrev asksOnce : Fields
+asksOnce = record { extended = false; «message_id» = 0; «power_role» = 0; revision = 2; «data_role» = 0; «message_type» = 2 }
 
 -- ports 1 and 2 have asked for 120,000 and 54,000, and the receiver at port 3 has its offer
 abbrev before : List Desk.Asking
@@ -114,3 +127,31 @@ answers = (refl, refl, refl)
 pub refusals : (step desk 5 (event Event.Detach) .verdict ≡ Refused NotInRack) × (step desk 0 (event Event.Detach) .verdict ≡ Refused NotInRack) × (step desk 3 (event Event.Attach) .verdict ≡ Refused NotAwaited)
 unfolding Desk.rackAfter run history heldBy step answerAt settled judged approves powerRule others setUp goodSetUp goodSetting goodOffer goodFrom goodObject objectAt isOffer Port.step eventOf packetOf readOf readingTried refuseIf wordOf fieldsOf objectsOf partOf isChunked messageOf meaningIn meaningOf byMeaning otherPacket newPacket goodCrcHeard byOutcome onGoodCrc onExpiry pendingId isRepeat acknowledged failed resent nothingDone happens leads onPacket changeOf heardAs firstObject fitOf fits asked turn enter changed standingOf isHonoured ended again heard sends controlOf dataOf headerOf bytesOf newOfferOf
 refusals = (refl, refl, refl)
+
+-- RepeatChangesNothing: port 2's Request again, while it is Accepting
+pub a-repeat :
+    (listens (stateOf (at desk 1 .port)) ≡ true)
+    × (readOf Desk.for54000 ≡ Reading.Message 1 asksOnce)
+    × (isRepeat (at desk 1 .port .channel) 0 ≡ true)
+    × (aside (meaningIn 1 asksOnce) ≡ false)
+unfolding Desk.rackAfter run history heldBy step answerAt settled judged approves powerRule others setUp goodSetUp goodSetting goodOffer goodFrom goodObject objectAt isOffer Port.step eventOf packetOf readOf readingTried refuseIf wordOf fieldsOf objectsOf partOf isChunked messageOf meaningIn meaningOf byMeaning otherPacket newPacket goodCrcHeard byOutcome onGoodCrc onExpiry pendingId isRepeat acknowledged failed resent nothingDone happens leads onPacket changeOf heardAs firstObject fitOf fits asked turn enter changed standingOf isHonoured ended again heard sends controlOf dataOf headerOf bytesOf newOfferOf
+a-repeat = (refl, refl, refl, refl)
+
+-- Neighbours: the same rack but for a receiver that is attached to port 4: its memory is another, and every port takes the load that it took
+abbrev beside : Rack
+beside = step desk 4 (event Event.Attach) .rack
+
+pub another-neighbour : (stateOf (at desk 3 .port) ≡ State.Detached) × (stateOf (at beside 3 .port) ≡ State.Offer) × (beside .supply ≡ desk .supply) × (portsIn desk ≡ portsIn beside) × (at desk 2 ≡ at beside 2)
+unfolding Desk.rackAfter run history heldBy step answerAt settled judged approves powerRule others setUp goodSetUp goodSetting goodOffer goodFrom goodObject objectAt isOffer Port.step eventOf packetOf readOf readingTried refuseIf wordOf fieldsOf objectsOf partOf isChunked messageOf meaningIn meaningOf byMeaning otherPacket newPacket goodCrcHeard byOutcome onGoodCrc onExpiry pendingId isRepeat acknowledged failed resent nothingDone happens leads onPacket changeOf heardAs firstObject fitOf fits asked turn enter changed standingOf isHonoured ended again heard sends controlOf dataOf headerOf bytesOf newOfferOf
+another-neighbour = (refl, refl, refl, refl, refl)
+
+at-four : loadOf (at desk 3) ≡ loadOf (at beside 3)
+unfolding Desk.rackAfter run history heldBy step answerAt settled judged approves powerRule others setUp goodSetUp goodSetting goodOffer goodFrom goodObject objectAt isOffer Port.step eventOf packetOf readOf readingTried refuseIf wordOf fieldsOf objectsOf partOf isChunked messageOf meaningIn meaningOf byMeaning otherPacket newPacket goodCrcHeard byOutcome onGoodCrc onExpiry pendingId isRepeat acknowledged failed resent nothingDone happens leads onPacket changeOf heardAs firstObject fitOf fits asked turn enter changed standingOf isHonoured ended again heard sends controlOf dataOf headerOf bytesOf newOfferOf
+at-four = refl
+
+pub the-same-loads : (k : ℕ) → loadOf (at desk k) ≡ loadOf (at beside k)
+the-same-loads k = by-test (eqb k 3) refl
+  where
+    by-test : (b : Bool) → eqb k 3 ≡ b → loadOf (at desk k) ≡ loadOf (at beside k)
+    by-test true e = subst (λ m. loadOf (at desk m) ≡ loadOf (at beside m)) (sym (eqb-true k 3 e)) at-four
+    by-test false e = sym (ap loadOf (others-stay desk 4 k (event Event.Attach) (eqb-false k 3 e)))

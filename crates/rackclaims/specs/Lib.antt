@@ -1,3 +1,4 @@
 pub mod Wire
 pub mod History
 pub mod NightDesk
+pub mod Leads

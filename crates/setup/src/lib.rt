@@ -1,8 +1,8 @@
 // Setting up a rack: which set-ups are good, and the rack that a good one gives. It promises the paper's
 // rule for every set-up, and that nothing is set up by a bad one; it rests on the rack.
 ghost use mathlib.Core.Path.{_≡_};
-ghost use Rattle.setup.specs.SetUps.{goodSetting, goodSetUp, slotOf, rackOf, noRack, setUp};
 ghost use mathlib.Core.List.{map};
+ghost use Rattle.setup.specs.SetUps.{goodSetting, goodSetUp, slotOf, noRack, setUp};
 use ground::Refusal;
 use ground::Verdict;
 use offers::Offer;

@@ -5,7 +5,7 @@ ghost use mathlib.Core.Path.{_≡_};
 ghost use Prim.Native.Nat.{_+_};
 ghost use lib.Dec.{leb};
 ghost use Rattle.slot.specs.Load.{loadOf, approves};
-ghost use Rattle.slot.specs.Answers.{hasAsked, answerOf, joined, judged, settled};
+ghost use Rattle.slot.specs.Answers.{hasAsked, answerOf, joined, settled};
 use port::Actions;
 use port::Answer;
 use port::Event;
