@@ -6,6 +6,7 @@
 mod chance;
 mod channel;
 mod hex;
+mod line_shapes;
 mod lines;
 mod meaning;
 mod odd_lines;

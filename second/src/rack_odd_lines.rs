@@ -3,6 +3,7 @@
 //! characters changed.
 
 use crate::chance::Chance;
+use crate::line_shapes::{change, characters, of_length, walk_all, with_bytes};
 use crate::rack_situations::alike;
 use crate::step_walk::{Walk, FIVE_VOLT, NINE_VOLT};
 
@@ -287,40 +288,34 @@ const ODD_BUT_GOOD: &[&[u8]] = &[
 
 /// Around 64 bytes and around 240 characters.
 fn long_lines() -> Vec<Vec<u8>> {
-    let mut lines = Vec::new();
-    for count in [
+    let counts = [
         28, 31, 32, 60, 63, 64, 65, 68, 72, 73, 74, 75, 76, 77, 78, 300,
-    ] {
-        for start in ["1 packet", "001 offer", "999 packet", "place 30000 120000"] {
-            lines.push([start, &" 01".repeat(count)].concat().into_bytes());
-        }
-    }
-    for length in [239, 240, 241, 242, 256, 257, 1000] {
-        for (start, ends) in [
-            ("1 attach", ["", "\r", "x"]),
-            ("001", [" attach", " yes\r", " "]),
-            ("1 packet 81 00", ["", "\r", " 00"]),
-            ("1 offer 2C 91 01 00", [" \r", " 00", "\r"]),
-            ("supply 240000", ["", "\r", " 1"]),
-            ("supply", [" 240000", " 240000\r", ""]),
-            ("place 30000 120000 2C 91 01 00", ["", "\r ", " 00"]),
-            ("place 30000", [" 120000", " 120000 00 90 01 00", "\r"]),
-            ("setup", ["", "\r", " 1"]),
-            ("", ["1 attach", "setup", "1"]),
-        ] {
-            for end in ends {
-                let filler = length - start.len() - end.len();
-                lines.push([start, &" ".repeat(filler), end].concat().into_bytes());
-            }
-        }
-    }
+    ];
+    let lengths = [239, 240, 241, 242, 256, 257, 1000];
+    let parts = [
+        ("1 attach", ["", "\r", "x"]),
+        ("001", [" attach", " yes\r", " "]),
+        ("1 packet 81 00", ["", "\r", " 00"]),
+        ("1 offer 2C 91 01 00", [" \r", " 00", "\r"]),
+        ("supply 240000", ["", "\r", " 1"]),
+        ("supply", [" 240000", " 240000\r", ""]),
+        ("place 30000 120000 2C 91 01 00", ["", "\r ", " 00"]),
+        ("place 30000", [" 120000", " 120000 00 90 01 00", "\r"]),
+        ("setup", ["", "\r", " 1"]),
+        ("", ["1 attach", "setup", "1"]),
+    ];
+    let mut lines = with_bytes(
+        &counts,
+        &["1 packet", "001 offer", "999 packet", "place 30000 120000"],
+    );
+    lines.extend(of_length(&lengths, &parts));
     lines
 }
 
 /// Each character alone with a word, before, within and after a line.
 fn every_character(walk: &mut Walk) {
-    for character in (0..=u8::MAX).filter(|&character| character != b'\n') {
-        let lines: [&[&[u8]]; 9] = [
+    for character in characters() {
+        let lines: &[&[&[u8]]] = &[
             &[&[character], b" attach"],
             &[&[character], b"1 attach"],
             &[b"1", &[character], b" detach"],
@@ -331,9 +326,7 @@ fn every_character(walk: &mut Walk) {
             &[b"place 30000 12000", &[character], b" 2C 91 01 00"],
             &[b"setup", &[character]],
         ];
-        for line in lines {
-            walk.raw(&line.concat());
-        }
+        walk_all(walk, lines);
     }
 }
 
@@ -358,13 +351,7 @@ fn changed_lines(walk: &mut Walk) {
         let mut line = chance.one_of(&GOOD).to_vec();
         // as often as not just as it stands, so that racks come and go
         for _ in 0..chance.below(3) {
-            let place = chance.below(line.len());
-            let character = chance.one_of(b"0123456789abcdefABCDEF    \r\tghpy-");
-            match chance.below(3) {
-                0 => drop(line.remove(place)),
-                1 => line.insert(place, character),
-                _ => line[place] = character,
-            }
+            change(&mut line, &mut chance);
         }
         walk.raw(&line);
     }

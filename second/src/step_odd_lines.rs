@@ -2,6 +2,7 @@
 //! those it only just understands, and good lines with a few characters changed.
 
 use crate::chance::Chance;
+use crate::line_shapes::{change, characters, of_length, walk_all, with_bytes};
 use crate::step_walk::Walk;
 
 pub fn add_all(walk: &mut Walk) {
@@ -175,36 +176,27 @@ const ODD_BUT_GOOD: &[&[u8]] = &[
 
 /// Around 64 bytes and around 240 characters.
 fn long_lines() -> Vec<Vec<u8>> {
-    let mut lines = Vec::new();
-    for count in [
+    let counts = [
         30, 31, 32, 60, 63, 64, 65, 66, 68, 72, 76, 77, 78, 79, 80, 81, 128, 1000,
-    ] {
-        for start in ["packet", "offer", "port 120000", "port 1200000"] {
-            lines.push([start, &" 01".repeat(count)].concat().into_bytes());
-        }
-    }
-    for length in [239, 240, 241, 242, 255, 256, 257, 1000, 70_000] {
-        for (start, ends) in [
-            ("attach", ["", "\r", "x"]),
-            ("detach", [" \r", "\r\r", " 00"]),
-            ("packet 81 00", ["", "\r", " 00"]),
-            ("offer 2C 91 01 00", [" \r", " 00", "\r"]),
-            ("port 120000 2C 91 01 00", ["", "\r", "\r "]),
-            ("", ["attach", "yes\r", " "]),
-        ] {
-            for end in ends {
-                let filler = length - start.len() - end.len();
-                lines.push([start, &" ".repeat(filler), end].concat().into_bytes());
-            }
-        }
-    }
+    ];
+    let lengths = [239, 240, 241, 242, 255, 256, 257, 1000, 70_000];
+    let parts = [
+        ("attach", ["", "\r", "x"]),
+        ("detach", [" \r", "\r\r", " 00"]),
+        ("packet 81 00", ["", "\r", " 00"]),
+        ("offer 2C 91 01 00", [" \r", " 00", "\r"]),
+        ("port 120000 2C 91 01 00", ["", "\r", "\r "]),
+        ("", ["attach", "yes\r", " "]),
+    ];
+    let mut lines = with_bytes(&counts, &["packet", "offer", "port 120000", "port 1200000"]);
+    lines.extend(of_length(&lengths, &parts));
     lines
 }
 
 /// Each character alone, before, within and after a line.
 fn every_character(walk: &mut Walk) {
-    for character in (0..=u8::MAX).filter(|&character| character != b'\n') {
-        let lines: [&[&[u8]]; 7] = [
+    for character in characters() {
+        let lines: &[&[&[u8]]] = &[
             &[&[character]],
             &[&[character], b"attach"],
             &[b"detach", &[character]],
@@ -213,9 +205,7 @@ fn every_character(walk: &mut Walk) {
             &[b"packet 81", &[character], b"00"],
             &[b"port 12000", &[character], b" 2C 91 01 00"],
         ];
-        for line in lines {
-            walk.raw(&line.concat());
-        }
+        walk_all(walk, lines);
     }
 }
 
@@ -235,13 +225,7 @@ fn changed_lines(walk: &mut Walk) {
     for _ in 0..3_000 {
         let mut line = chance.one_of(&GOOD).to_vec();
         for _ in 0..=chance.below(2) {
-            let place = chance.below(line.len());
-            let character = chance.one_of(b"0123456789abcdefABCDEF    \r\tghpy-");
-            match chance.below(3) {
-                0 => drop(line.remove(place)),
-                1 => line.insert(place, character),
-                _ => line[place] = character,
-            }
+            change(&mut line, &mut chance);
         }
         walk.raw(&line);
     }

@@ -7,3 +7,4 @@ pub mod Witnesses
 pub mod Demand1
 pub mod Demand2
 pub mod Demand3
+pub mod WorkedRequests

@@ -7,6 +7,7 @@ use mathlib.Core.List.{List, map}
 use lib.Dec.{leb}
 use lib.ListN.{length, length-map}
 use borrow.Author.Tests.{leb-true}
+use Rattle.slot.specs.declared.Slot.{Slot}
 use Rattle.slot.specs.Load.{loadOf}
 use Rattle.rack.specs.declared.Rack.{Rack}
 use Rattle.rack.specs.Ports.{mostPorts, at, portsIn, inRack, placeOf, total, loads, others}
@@ -50,6 +51,10 @@ others-and-this r i h = total-without (λ k. loadOf (at r k)) i (portsIn r) h
 
 pub all-but-this : (r : Rack) (i : ℕ) → i < portsIn r → loads r - loadOf (at r i) ≡ others r i
 all-but-this r i h = omega (arith, others-and-this r i h)
+
+-- a port's load, where the port is told
+pub loads-of : {load : ℕ} {s t : Slot} → load ≡ loadOf s → s ≡ t → load ≡ loadOf t
+loads-of e h = e ∙ ap loadOf h
 
 -- so much may be taken away
 pub less-than-all : (r : Rack) (i load sum : ℕ) → i < portsIn r → load ≡ loadOf (at r i) → sum ≡ loads r → load ≤ sum

@@ -86,12 +86,20 @@ impl Rack {
         total
     }
 
+    // The port at a place, with its share and its limit.
+    fn slot(self, i: usize) -> Slot
+        requires { ⌜ i < mostPorts ⌝ }
+        ensures { λ r. ⌜ r ≡ at self i ⌝ }
+    {
+        self.slots[i]
+    }
+
     // What the other ports take of it.
     fn others(self, i: usize) -> u64
         requires { ⌜ i < portsIn self ⌝ }
         ensures { λ r. ⌜ r ≡ others self i ⌝ }
     {
-        let s = self.slots[i];
+        let s = self.slot(i);
         self.load() - s.load() as u64
     }
 
@@ -100,7 +108,7 @@ impl Rack {
         requires { ⌜ i < portsIn self ⌝ }
         ensures { λ r. ⌜ r ≡ settled (at self i) (others self i) (self .supply) a ⌝ }
     {
-        let s = self.slots[i];
+        let s = self.slot(i);
         if slot::has_asked(s.port, a.port) {
             return s.settles(a, self.others(i), self.supply);
         }
@@ -111,7 +119,7 @@ impl Rack {
         requires { ⌜ i < mostPorts ⌝ }
         ensures { λ r. ⌜ r ≡ put self i p ⌝ }
     {
-        let s = self.slots[i];
+        let s = self.slot(i);
         let t = Slot {
             port: p,
             share: s.share,
@@ -159,7 +167,7 @@ impl Rack {
     {
         if self.has(number) {
             let i = (number - 1) as usize;
-            let s = self.slots[i];
+            let s = self.slot(i);
             let p = s.port;
             return self.turned(i, p.event(e));
         }
@@ -172,7 +180,7 @@ impl Rack {
     {
         if self.has(number) {
             let i = (number - 1) as usize;
-            let s = self.slots[i];
+            let s = self.slot(i);
             let p = s.port;
             return self.turned(i, p.packet(bytes));
         }
@@ -185,7 +193,7 @@ impl Rack {
     {
         if self.has(number) {
             let i = (number - 1) as usize;
-            let s = self.slots[i];
+            let s = self.slot(i);
             let p = s.port;
             return self.turned(i, p.new_offer(s.limit, o));
         }

@@ -12,12 +12,11 @@ new-offer-spec =
     tie.close
     (tie.spec
     (λ c κs. search needs)
-    (λ c. let a = c .before .before .args in from-one (a .t1) (a .number) (sym (c .before .has .ensures) ∙ c .if1 .taken))
+    (λ c. let a = c .before .before .args in from-one (a .self) (a .number) (sym (c .before .has .ensures) ∙ c .if1 .taken))
     (λ c. search needs)
-    (λ c. search needs)
-    (λ c. let a = c .before .before .args in place-in-slots (a .t1) (a .number) (sym (c .before .has .ensures) ∙ c .if1 .taken))
+    (λ c κs. let a = c .before .before .args in place-in-slots (a .self) (a .number) (sym (c .before .has .ensures) ∙ c .if1 .taken))
     (λ c κs. search needs)
-    (λ c κs. let a = c .before .before .before .before .before .args in place-in (a .t1) (a .number) (sym (c .before .before .before .before .has .ensures) ∙ c .before .before .before .if1 .taken))
-    (λ c. c .turned .ensures ∙ rw (c .before .new-offer .ensures, ← c .before .before .before .before .before .has .ensures, c .before .before .before .before .if1 .taken))
+    (λ c κs. let a = c .before .before .before .before .before .args in place-in (a .self) (a .number) (sym (c .before .before .before .before .has .ensures) ∙ c .before .before .before .if1 .taken))
+    (λ c. c .turned .ensures ∙ rw (c .before .new-offer .ensures, c .before .before .before .slot .ensures, ← c .before .before .before .before .before .has .ensures, c .before .before .before .before .if1 .taken))
     (λ c κs. search needs)
     (λ c. c .refused .ensures ∙ rw (← c .before .before .has .ensures, c .before .if1 .left)))

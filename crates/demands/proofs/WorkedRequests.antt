@@ -1,0 +1,71 @@
+-- Worked cases of the demands' conditions, computed by the checker: at the night desk, when ports 1 and 2 have got 120,000 and 54,000, port 3's Request for 36,000
+-- is acceptable (Demand2), and one for 30,000 is new, awaited, fits and is within its share (Demand3). Assumes nothing.
+use Prim.Native.Nat.{_<_, _≤_}
+use native.Mathlib.Omega.{arith}
+use mathlib.Core.Path.{_≡_, refl}
+use mathlib.Core.Bool.{true, false}
+use mathlib.Core.List.{List, [], _∷_, _++_}
+use borrow.Author.Tests.{leb-true}
+use Rattle.ground.specs.Refusals.{refuseIf}
+use Rattle.message.specs.declared.Fields.{Fields}
+use Rattle.message.specs.Header.{fieldsOf, objectsOf, headerOf}
+use Rattle.message.specs.Bytes.{wordOf, isChunked, bytesOf}
+use Rattle.meaning.specs.declared.Meaning.{Meaning}
+use Rattle.meaning.specs.Meaning.{meaningOf}
+use Rattle.reading.specs.declared.Reading.{Reading}
+use Rattle.reading.specs.Reading.{readOf, readingTried, partOf}
+use Rattle.offers.specs.Offers.{objectAt, goodObject, goodFrom, goodOffer}
+use Rattle.offers.specs.Requests.{fits, asked, fitOf}
+use Rattle.outgoing.specs.Packets.{controlOf, dataOf}
+use Rattle.channel.specs.Channel.{pendingId, isRepeat, ended, heard, sends}
+use Rattle.channel.specs.Outcomes.{onGoodCrc}
+use Rattle.power.specs.Power.{changed, standingOf}
+use Rattle.source.specs.Leads.{leads}
+use Rattle.source.specs.Packets.{onPacket}
+use Rattle.source.specs.Changes.{changeOf}
+use Rattle.port.specs.Memory.{stateOf}
+use Rattle.port.specs.Entering.{enter}
+use Rattle.port.specs.Steps.{turn, happens, acknowledged, byOutcome, nothingDone, eventOf}
+use Rattle.port.specs.Packets.{firstObject, meaningIn, heardAs, newPacket, otherPacket, goodCrcHeard, byMeaning, messageOf, packetOf}
+use Rattle.port.specs.Calls as Port
+use Rattle.portclaims.specs.Awaited.{awaitsRequest}
+use Rattle.slot.specs.Load.{approves}
+use Rattle.slot.specs.Answers.{judged, settled}
+use Rattle.rack.specs.declared.Rack.{Rack}
+use Rattle.rack.specs.Ports.{at, others}
+use Rattle.rack.specs.Steps.{answerAt, step}
+use Rattle.rack.specs.Runs.{Happens, run}
+use Rattle.setup.specs.SetUps.{setting, goodSetting, goodSetUp, setUp}
+use Rattle.rackclaims.specs.NightDesk as Desk
+use Rattle.rackclaims.proofs.Witnesses.{set-ups}
+use Rattle.demands.proofs.Demand2.{Acceptable}
+
+-- what came before, and the rack as it then is
+abbrev events : List Happens
+events = Desk.asked (record { number = 1; bytes = Desk.for120000 } ∷ (record { number = 2; bytes = Desk.for54000 } ∷ [])) ++ Desk.attached 3
+
+abbrev now′ : Rack
+now′ = run (setUp Desk.nightDesk .rack) events
+
+-- the fields of a receiver's first Request
+abbrev first : Fields
+first = record { extended = false; «message_id» = 0; «power_role» = 0; revision = 2; «data_role» = 0; «message_type» = 2 }
+
+pub read : (readOf Desk.for36000 ≡ Reading.Message 1 first) × (readOf Desk.for30000 ≡ Reading.Message 1 first) × (meaningIn 1 first ≡ Meaning.Request)
+unfolding readOf readingTried refuseIf wordOf fieldsOf objectsOf isChunked meaningIn meaningOf
+read = (refl, refl, refl)
+
+pub here : 2 < 4
+here = omega arith
+
+pub an-acceptable-request : Acceptable Desk.nightDesk (set-ups .0) events 2 here Desk.for36000 1 first (read .0) (read .2)
+unfolding readOf readingTried refuseIf wordOf fieldsOf objectsOf headerOf isChunked meaningOf bytesOf partOf objectAt goodObject goodFrom goodOffer fits asked fitOf controlOf dataOf pendingId isRepeat ended heard sends onGoodCrc changed standingOf leads onPacket changeOf enter turn happens acknowledged byOutcome nothingDone eventOf firstObject meaningIn heardAs newPacket otherPacket goodCrcHeard byMeaning messageOf packetOf Port.step approves judged settled others answerAt step run goodSetting goodSetUp setUp
+an-acceptable-request = record { new = refl; awaited-or-in-ready = refl; fits-the-last-offer = refl; within-the-limit = leb-true 36000 120000 refl; within-the-supply = leb-true 240000 240000 refl }
+
+pub a-request-within-the-share :
+    (isRepeat (at now′ 2 .port .channel) (first .«message_id») ≡ false)
+    × (awaitsRequest (stateOf (at now′ 2 .port)) ≡ true)
+    × (fits 1 (firstObject (partOf Desk.for30000)) (at now′ 2 .port .last) ≡ true)
+    × (asked (firstObject (partOf Desk.for30000)) (at now′ 2 .port .last) .worth ≤ setting Desk.nightDesk 2 .share)
+unfolding readOf readingTried refuseIf wordOf fieldsOf objectsOf headerOf isChunked meaningOf bytesOf partOf objectAt goodObject goodFrom goodOffer fits asked fitOf controlOf dataOf pendingId isRepeat ended heard sends onGoodCrc changed standingOf leads onPacket changeOf enter turn happens acknowledged byOutcome nothingDone eventOf firstObject meaningIn heardAs newPacket otherPacket goodCrcHeard byMeaning messageOf packetOf Port.step approves judged settled others answerAt step run goodSetting goodSetUp setUp
+a-request-within-the-share = (refl, refl, refl, leb-true 30000 30000 refl)
