@@ -34,8 +34,8 @@ fn setting_of(r: Rest) -> Setting {
     }
 }
 
-// The set-up with one port more. There is no room for a ninth: its number alone is kept, by which the
-// set-up is a bad one.
+// The set-up with one port more. There is no room for one past the last: its number alone is kept, by
+// which the set-up is a bad one.
 pub fn placed(u: SetUp, r: Rest) -> SetUp {
     let mut more = u;
     let i = u.count as usize;
@@ -44,6 +44,6 @@ pub fn placed(u: SetUp, r: Rest) -> SetUp {
         more.count = u.count + 1;
         return more;
     }
-    more.count = 9;
+    more.count = PORTS as u8 + 1;
     more
 }
