@@ -1,8 +1,8 @@
 -- Every answer is pinned down: no two differing results meet the contract of a public call, as the checker itself reads that contract.
 -- Where a call returns a part, its place in the caller's memory is settled too; where a call is lent a buffer, so is every byte of it. Assumes nothing.
-use mathlib.Core.Path.{_≡_, sym, ap, _∙_}
+use mathlib.Core.Path.{ap}
 use denote.Ref.{ptr, now}
-use Rattle.ground.proofs.Settles.{Settles}
+use Rattle.ground.proofs.Settles.{Settles, same}
 use Rattle.text.specs.Text.{Line}
 use Rattle.text.proofs.put.Kinds as put-k
 use Rattle.text.proofs.put.Reads as put-c
@@ -44,10 +44,6 @@ use Rattle.sending.proofs.header_bytes.Kinds as header-k
 use Rattle.sending.proofs.header_bytes.Reads as header-c
 use Rattle.sending.proofs.good_crc.Kinds as crc-k
 use Rattle.sending.proofs.good_crc.Reads as crc-c
-
--- two things that are the same third are the same
-same : {A : Type 0} {x y d : A} → x ≡ d → y ≡ d → x ≡ y
-same p q = p ∙ sym q
 
 pub number : Settles 0 number-k.ps number-k.r number-c.Post (λ κs x s. x)
 number κs a x y s t = same

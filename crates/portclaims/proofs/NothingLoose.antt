@@ -1,7 +1,6 @@
 -- Every answer of the port and of its layers is pinned down: no two differing results meet the contract of a public call, as the checker itself reads that contract.
 -- Assumes nothing.
-use mathlib.Core.Path.{_≡_, sym, _∙_}
-use Rattle.ground.proofs.Settles.{Settles}
+use Rattle.ground.proofs.Settles.{Settles, same}
 use Rattle.offers.proofs.voltage.Kinds as offers-voltage-k
 use Rattle.offers.proofs.voltage.Reads as offers-voltage-c
 use Rattle.offers.proofs.current.Kinds as offers-current-k
@@ -62,10 +61,6 @@ use Rattle.port.proofs.Port.packet.Kinds as port-packet-k
 use Rattle.port.proofs.Port.packet.Reads as port-packet-c
 use Rattle.port.proofs.Port.new_offer.Kinds as port-new-offer-k
 use Rattle.port.proofs.Port.new_offer.Reads as port-new-offer-c
-
--- two things that are the same third are the same
-same : {A : Type 0} {x y d : A} → x ≡ d → y ≡ d → x ≡ y
-same p q = p ∙ sym q
 
 pub offers-voltage : Settles 0 offers-voltage-k.ps offers-voltage-k.r offers-voltage-c.Post (λ κs x s. x)
 offers-voltage κs a x y s t = same

@@ -3,6 +3,7 @@ use Prim.Native.Nat.{ℕ, _<_}
 use mathlib.Core.Path.{_≡_, refl, sym, subst}
 use mathlib.Core.Bool.{Bool, true, false, not, _&&_}
 use lib.Dec.{T, ltb, ltb→lt}
+pub use Rattle.ground.proofs.Rows.{first, second}
 use Rattle.portclaims.specs.Between.{implies}
 
 pub so : (b : Bool) → b ≡ true → T b
@@ -26,14 +27,6 @@ then false b t e = true-not-false (sym e)
 pub and : (a b : Bool) → a ≡ true → b ≡ true → (a && b) ≡ true
 and true b e h = h
 and false b e h = e
-
-pub first : (a b : Bool) → (a && b) ≡ true → a ≡ true
-first true b e = refl
-first false b e = e
-
-pub second : (a b : Bool) → (a && b) ≡ true → b ≡ true
-second true b e = e
-second false b e = true-not-false (sym e)
 
 pub not-true : (b : Bool) → not b ≡ true → b ≡ false
 not-true true e = sym e

@@ -2,24 +2,17 @@
 use Prim.Native.Nat.{ℕ, _+_, _-_, _<_, _≤_}
 use native.Mathlib.Omega.{arith}
 use mathlib.Core.Path.{_≡_, refl, sym, ap, _∙_}
-use mathlib.Core.Bool.{Bool, true, false, _&&_}
+use mathlib.Core.Bool.{true}
 use mathlib.Core.List.{List, map}
 use lib.Dec.{leb}
 use lib.ListN.{length, length-map}
 use borrow.Author.Tests.{leb-true}
+use Rattle.ground.proofs.Rows.{first, second}
 use Rattle.slot.specs.declared.Slot.{Slot}
 use Rattle.slot.specs.Load.{loadOf}
 use Rattle.rack.specs.declared.Rack.{Rack}
 use Rattle.rack.specs.Ports.{mostPorts, at, portsIn, inRack, placeOf, total, loads, others}
 use Rattle.rack.proofs.Totals.{total-more, total-without}
-
-first : (a b : Bool) → (a && b) ≡ true → a ≡ true
-first true b e = refl
-first false b e = e
-
-second : (a b : Bool) → (a && b) ≡ true → b ≡ true
-second true b e = e
-second false b e = cc
 
 -- ---- a number that is in the rack
 module _ (r : Rack) (number : ℕ) (h : inRack r number ≡ true) where

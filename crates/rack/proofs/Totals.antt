@@ -12,7 +12,8 @@ use Rattle.rack.specs.Ports.{total}
 pub total-more : (f : ℕ → ℕ) (n : ℕ) → total f (n + 1) ≡ total f n + f n
 total-more f n = rw (add-one n) refl
 
-below : (n i : ℕ) → i < suc n → (i ≡ n → ⊥) → i < n
+-- not the last of n + 1 places, so one of n
+pub below : (n i : ℕ) → i < suc n → (i ≡ n → ⊥) → i < n
 below n i h d = omega (arith, d)
 
 above : (k n i : ℕ) → k < n → k ≡ i → i ≡ n → ⊥

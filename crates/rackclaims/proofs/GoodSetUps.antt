@@ -12,7 +12,7 @@ use Rattle.ground.specs.declared.Verdict.the-variants.{Fine}
 use Rattle.offers.specs.Offers.{goodOffer}
 use Rattle.slot.specs.Load.{loadOf}
 use Rattle.rack.specs.Ports.{mostPorts, nobody, at, portsIn, loads}
-use Rattle.rack.proofs.Totals.{total-same}
+use Rattle.rack.proofs.Totals.{below, total-same}
 use Rattle.setup.specs.declared.SetUp.{SetUp}
 use Rattle.setup.specs.SetUps.{least, largestLimit, noSetting, setting, goodSetting, everywhere, shares, goodCount, goodSupply, goodSetUp, slotOf, rackOf, judged, setUp}
 use Rattle.portclaims.proofs.Truth.{true-not-false, first, second}
@@ -22,9 +22,6 @@ each : (f : ℕ → Bool) (n i : ℕ) → everywhere f n ≡ true → i < n → 
 each f zero i e h = absurd (not-suc-le-zero h)
 each f (suc n) i e h = by-test (eqb i n) refl (λ l. each f n i (first (everywhere f n) (f n) e) l)
   where
-    below : (n i : ℕ) → i < suc n → (i ≡ n → ⊥) → i < n
-    below n i h d = omega (arith, d)
-
     by-test : (b : Bool) → eqb i n ≡ b → (i < n → f i ≡ true) → f i ≡ true
     by-test true q rest = ap f (eqb-true i n q) ∙ second (everywhere f n) (f n) e
     by-test false q rest = rest (below n i h (eqb-false i n q))

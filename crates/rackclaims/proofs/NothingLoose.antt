@@ -1,7 +1,6 @@
 -- Every answer of the rack and of its layers is pinned down: no two differing results meet the contract of a public call, as the checker itself reads that contract.
 -- Assumes nothing.
-use mathlib.Core.Path.{_≡_, sym, _∙_}
-use Rattle.ground.proofs.Settles.{Settles}
+use Rattle.ground.proofs.Settles.{Settles, same}
 use Rattle.ground.proofs.larger.Kinds as ground-larger-k
 use Rattle.ground.proofs.larger.Reads as ground-larger-c
 use Rattle.source.proofs.judging.Kinds as source-judging-k
@@ -28,10 +27,6 @@ use Rattle.setup.proofs.good.Kinds as setup-good-k
 use Rattle.setup.proofs.good.Reads as setup-good-c
 use Rattle.setup.proofs.set_up.Kinds as setup-set-up-k
 use Rattle.setup.proofs.set_up.Reads as setup-set-up-c
-
--- two things that are the same third are the same
-same : {A : Type 0} {x y d : A} → x ≡ d → y ≡ d → x ≡ y
-same p q = p ∙ sym q
 
 pub ground-larger : Settles 0 ground-larger-k.ps ground-larger-k.r ground-larger-c.Post (λ κs x s. x)
 ground-larger κs a x y s t = same

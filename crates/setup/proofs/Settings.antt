@@ -8,7 +8,7 @@ use mathlib.Core.Bool.{Bool, true, false, _&&_}
 use lib.Dec.{eqb, leb}
 use borrow.Author.Tests.{le-leb, lt-leb, eqb-true, eqb-false}
 use Rattle.rack.specs.Ports.{mostPorts}
-use Rattle.rack.proofs.Totals.{total-more}
+use Rattle.rack.proofs.Totals.{below, total-more}
 use Rattle.setup.specs.declared.SetUp.{SetUp}
 use Rattle.setup.specs.SetUps.{setting, goodSetting, everywhere, shares, goodCount, goodSupply, goodSetUp}
 
@@ -28,9 +28,6 @@ module _ (f : ℕ → Bool) where
       by-test : (b : Bool) → eqb i n ≡ b → (i < n → everywhere f n ≡ false) → everywhere f (suc n) ≡ false
       by-test true q rest = rw (← eqb-true i n q, e) (and-false (everywhere f i))
       by-test false q rest = rw (rest (below n i h (eqb-false i n q))) refl
-        where
-          below : (n i : ℕ) → i < suc n → (i ≡ n → ⊥) → i < n
-          below n i h d = omega (arith, d)
 
 module _ (u : SetUp) where
   abbrev good-ports : ℕ → Bool
