@@ -39,7 +39,7 @@ use Rattle.slot.specs.Load.{loadOf, approves}
 use Rattle.slot.specs.Answers.{hasAsked, judged, settled}
 use Rattle.rack.specs.declared.Rack.{Rack}
 use Rattle.rack.specs.Ports.{at, portsIn, others, powerRule}
-use Rattle.rack.specs.Steps.{event, packet, ownAnswer, answerAt, step}
+use Rattle.rack.specs.Steps.{Happening, event, packet, ownAnswer, answerAt, step}
 use Rattle.rack.specs.Runs.{Happens, run}
 use Rattle.setup.specs.SetUps.{goodSetting, goodSetUp, setUp}
 use Rattle.rackclaims.specs.Wire.{isOffer}
@@ -155,3 +155,22 @@ the-same-loads k = by-test (eqb k 3) refl
     by-test : (b : Bool) → eqb k 3 ≡ b → loadOf (at desk k) ≡ loadOf (at beside k)
     by-test true e = subst (λ m. loadOf (at desk m) ≡ loadOf (at beside m)) (sym (eqb-true k 3 e)) at-four
     by-test false e = sym (ap loadOf (others-stay desk 4 k (event Event.Attach) (eqb-false k 3 e)))
+
+-- GivenUpOnlySo: port 1 is told PS_RDY and acknowledges it; it is detached; and it hears a Hard Reset, until Default is ready
+abbrev at1 : List Happening → Rack
+at1 [] = desk
+at1 (h ∷ hs) = step (at1 hs) 1 h .rack
+
+-- the last first
+abbrev telling : List Happening
+telling = event Event.SupplyReady ∷ (packet (0x81 ∷ 0x02 ∷ []) ∷ [])
+
+abbrev resetting : List Happening
+resetting = event Event.PsHardReset ∷ (event Event.HardReset ∷ [])
+
+pub power-that-is-put-in-force-and-given-up :
+    (answerAt (at1 telling) 0 (packet (0x81 ∷ 0x04 ∷ [])) .held ≡ Change.InForce)
+    × (answerAt desk 0 (event Event.Detach) .held ≡ Change.GivenUp)
+    × (answerAt (at1 resetting) 0 (event Event.SupplyReady) .held ≡ Change.GivenUp)
+unfolding Desk.rackAfter run history heldBy step answerAt settled judged approves powerRule others setUp goodSetUp goodSetting goodOffer goodFrom goodObject objectAt isOffer Port.step eventOf packetOf readOf readingTried refuseIf wordOf fieldsOf objectsOf partOf isChunked messageOf meaningIn meaningOf byMeaning otherPacket newPacket goodCrcHeard byOutcome onGoodCrc onExpiry pendingId isRepeat acknowledged failed resent nothingDone happens leads onPacket changeOf heardAs firstObject fitOf fits asked turn enter changed standingOf isHonoured ended again heard sends controlOf dataOf headerOf bytesOf newOfferOf
+power-that-is-put-in-force-and-given-up = (refl, refl, refl)

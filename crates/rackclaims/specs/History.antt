@@ -1,4 +1,5 @@
--- The history: what came to the rack and what it answered, and the power that a port holds by it. No memory of the rack is read.
+-- "What may not be left loose": "held power over the history". What came to the rack and what it answered, and the power that a port holds by it; no memory of the
+-- rack is read.
 use Prim.Native.Nat.{ℕ}
 use mathlib.Core.Bool.{cond}
 use mathlib.Core.List.{List, [], _∷_}

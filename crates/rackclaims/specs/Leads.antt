@@ -1,4 +1,4 @@
--- What it is for a port to be one that the Source rules lead to.
+-- "The Source states": what it is for a port to be one that the rules lead to.
 use mathlib.Core.Path.{_≡_}
 use mathlib.Core.List.{List}
 use Rattle.port.specs.declared.Port.{Port}

@@ -1,4 +1,4 @@
--- What the wire tells: the last offer put on it, and what a Request asks of that offer. Bytes alone; no memory of a port is read.
+-- "The packet", as the wire tells it: the last offer put on it, and what a Request asks of that offer. Bytes alone; no memory of a port is read.
 use Prim.Native.Nat.{ℕ, _*_, _-_}
 use mathlib.Core.Bool.{Bool, cond, _&&_}
 use mathlib.Core.List.{List}
