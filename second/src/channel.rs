@@ -1,15 +1,16 @@
 //! The paper's "Protocol rules": MessageIDs, acknowledgements and retries. What
 //! follows from an end of a send is for the states to say.
 
-use crate::packet::{what_we_send, write};
+use crate::message::Message;
+use crate::offer::Object;
 
 const MOST_RETRIES: u8 = 2;
 
-#[derive(Clone, Debug, PartialEq, Eq)]
+#[derive(Clone, Copy, Debug, PartialEq, Eq)]
 pub struct Pending {
     pub message_id: u8,
-    pub bytes: Vec<u8>,
-    /// How often the same bytes went out again.
+    pub message: Message,
+    /// How often it went out again.
     pub retries: u8,
 }
 
@@ -26,23 +27,21 @@ pub enum Outcome {
     NothingPending,
     Acknowledged,
     /// The same bytes are to go out again.
-    Again(Vec<u8>),
+    Again(Message),
     Failed,
 }
 
 impl Channel {
-    /// The bytes to transmit, which are then pending.
-    pub fn send(&mut self, message_type: u8, objects: &[u8]) -> Vec<u8> {
+    /// The message to transmit, which is then pending.
+    pub fn send(&mut self, message_type: u8, objects: &[Object]) -> Message {
         debug_assert_eq!(self.pending, None, "a message would be forgotten");
-        let fields = what_we_send(message_type, self.counter);
-        let mut bytes = vec![0; 2 + objects.len()];
-        write(&fields, objects, &mut bytes, 0).expect("what we send can be written");
+        let message = Message::new(message_type, self.counter, objects);
         self.pending = Some(Pending {
             message_id: self.counter,
-            bytes: bytes.clone(),
+            message,
             retries: 0,
         });
-        bytes
+        message
     }
 
     pub fn hear_good_crc(&mut self, message_id: u8) -> Outcome {
@@ -62,7 +61,7 @@ impl Channel {
         };
         if pending.retries < MOST_RETRIES {
             pending.retries += 1;
-            return Outcome::Again(pending.bytes.clone());
+            return Outcome::Again(pending.message);
         }
         self.end_pending();
         Outcome::Failed

@@ -3,35 +3,39 @@
 use super::*;
 
 /// With a message pending whose MessageID is this.
-fn sent(counter: u8) -> (Channel, Vec<u8>) {
+fn sent(counter: u8) -> (Channel, Message) {
     let mut channel = Channel {
         counter,
         ..Channel::default()
     };
-    let bytes = channel.send(3, &[]);
-    (channel, bytes)
+    let message = channel.send(3, &[]);
+    (channel, message)
 }
 
 #[test]
 fn a_message_goes_out_as_ours_with_the_counter() {
-    assert_eq!(sent(3).1, [0xA3, 0x07]);
-    let objects = [0x2C, 0x91, 0x01, 0x00];
-    let bytes = Channel::default().send(1, &objects);
-    assert_eq!(bytes, [0xA1, 0x11, 0x2C, 0x91, 0x01, 0x00]);
+    assert_eq!(*sent(3).1, [0xA3, 0x07]);
+    let message = Channel::default().send(1, &[Object::new(100, 300)]);
+    assert_eq!(*message, [0xA1, 0x11, 0x2C, 0x91, 0x01, 0x00]);
+    // as many objects as there can be
+    let seven = [100, 101, 102, 103, 104, 105, 106].map(|voltage| Object::new(voltage, 1));
+    let message = Channel::default().send(1, &seven);
+    assert_eq!((message.len(), &message[..2]), (30, &[0xA1, 0x71][..]));
+    assert_eq!(message[26..], Object::new(106, 1).bytes());
 }
 
 #[test]
 fn acknowledged_by_the_pending_message_id_only() {
     for counter in 0..8 {
         for heard in 0..8 {
-            let (mut channel, bytes) = sent(counter);
+            let (mut channel, message) = sent(counter);
             let outcome = channel.hear_good_crc(heard);
             if heard == counter {
                 assert_eq!(outcome, Outcome::Acknowledged);
                 assert_eq!(channel.pending, None);
                 assert_eq!(channel.counter, (counter + 1) & 7);
             } else {
-                assert_eq!(outcome, Outcome::Again(bytes));
+                assert_eq!(outcome, Outcome::Again(message));
                 assert_eq!(channel.counter, counter);
             }
             assert_eq!(channel.stored, None);
@@ -47,13 +51,13 @@ fn three_transmissions_and_no_more() {
         [true, false, true],
         [false, true, false],
     ] {
-        let (mut channel, bytes) = sent(7);
+        let (mut channel, message) = sent(7);
         let mut turn = |wrong: bool| match wrong {
             true => channel.hear_good_crc(6),
             false => channel.not_acknowledged(),
         };
-        assert_eq!(turn(wrong[0]), Outcome::Again(bytes.clone()));
-        assert_eq!(turn(wrong[1]), Outcome::Again(bytes));
+        assert_eq!(turn(wrong[0]), Outcome::Again(message));
+        assert_eq!(turn(wrong[1]), Outcome::Again(message));
         assert_eq!(turn(wrong[2]), Outcome::Failed);
         assert_eq!((channel.counter, &channel.pending), (0, &None));
     }

@@ -1,14 +1,25 @@
 //! An independent second implementation, written from the paper alone, to be
 //! compared with the first. It has the paper's "The packet", one port ("The port's
-//! memory and its actions", "The Source states"), and the rack ("Refusal numbers"
-//! on a good set-up, "Power rule").
+//! memory and its actions", "The Source states"), the rack ("Refusal numbers" on a
+//! good set-up, "Power rule"), and nights played through a rack (docs/NIGHT.md,
+//! docs/REPLAY.md).
 
 mod chance;
 mod channel;
+mod damaged_cases;
 mod hex;
+mod hostile_events;
 mod line_shapes;
 mod lines;
 mod meaning;
+mod message;
+mod night_cases;
+mod night_fields;
+mod night_lines;
+mod night_pieces;
+mod night_reader;
+mod night_text;
+mod night_writer;
 mod odd_lines;
 mod offer;
 mod packet;
@@ -25,7 +36,11 @@ mod rack_requests;
 mod rack_set_ups;
 mod rack_situations;
 mod rack_stories;
+mod random_night;
 mod refusal;
+mod replay;
+mod replay_counts;
+mod replay_table;
 mod states;
 mod step_cases;
 mod step_events;
@@ -38,36 +53,93 @@ mod step_walk;
 mod step_words;
 mod writing_cases;
 
-use std::io::{self, BufWriter};
+use std::io::{self, BufWriter, Write};
 use std::process::ExitCode;
 
-const USAGE: &str =
-    "usage: second packets       answer the lines of standard input (docs/PACKETS.md)
-       second packet-cases  print lines to try it with
-       second steps         answer the lines of standard input (docs/STEPS.md)
-       second steps-cases   print lines to try it with, about one port
-       second rack-cases    print lines to try it with, about racks";
+const USAGE: &str = "usage: second COMMAND
+
+These answer standard input:
+  packets       the lines of docs/PACKETS.md: read a packet, write it back
+  steps         the lines of docs/STEPS.md: step a port, or a rack of ports
+  replay        a night of docs/NIGHT.md: a line for each event, then the table (docs/REPLAY.md)
+  quiet         a night: what it comes to in counts, then the table (docs/REPLAY.md)
+  night         turn the text of a night into its file (docs/NIGHT.md)
+  night-text    turn the file of a night into its text
+
+These write what to try the programs with:
+  packet-cases  lines for `packets`
+  steps-cases   lines for `steps`, about one port
+  rack-cases    lines for `steps`, about racks
+  night-cases   nights for `replay` and `quiet`, the last of them damaged
+  damaged-cases N
+                the small cut or damaged night with the number N, counted from 0;
+                past the last one it writes nothing and ends with status 3
+  random-night SEED EVENTS PORTS
+                a night by chance: so many events at a rack of 1 to 8 ports";
+
+/// The status of `damaged-cases` where there is no such night.
+const PAST_THE_LAST: u8 = 3;
+const WRONG_ARGUMENTS: u8 = 2;
 
 fn main() -> ExitCode {
     let arguments: Vec<_> = std::env::args_os().skip(1).collect();
-    let words: Vec<_> = arguments.iter().map(|word| word.to_str()).collect();
+    let words = arguments.iter().map(|word| word.to_str());
+    let words: Vec<&str> = words.map(|word| word.unwrap_or_default()).collect();
     let output = BufWriter::new(io::stdout().lock());
-    let done = match words[..] {
-        [Some("packets")] => packet_lines::answer_all(io::stdin().lock(), output),
-        [Some("packet-cases")] => packet_cases::print_all(output),
-        [Some("steps")] => step_lines::answer_all(io::stdin().lock(), output),
-        [Some("steps-cases")] => step_cases::print_all(output),
-        [Some("rack-cases")] => rack_cases::print_all(output),
-        _ => {
-            eprintln!("{USAGE}");
-            return ExitCode::from(2);
-        }
-    };
-    match done {
-        Ok(()) => ExitCode::SUCCESS,
+    match run(&words, output) {
+        Ok(status) => status,
         Err(error) => {
             eprintln!("second: {error}");
             ExitCode::FAILURE
         }
     }
+}
+
+fn run(words: &[&str], output: impl Write) -> io::Result<ExitCode> {
+    let input = io::stdin().lock();
+    match words {
+        ["packets"] => packet_lines::answer_all(input, output)?,
+        ["steps"] => step_lines::answer_all(input, output)?,
+        ["replay"] => replay::replay(input, output)?,
+        ["quiet"] => replay_counts::quiet(input, output)?,
+        ["night"] => night_lines::write_night(input, output)?,
+        ["night-text"] => night_text::print_text(input, output)?,
+        ["packet-cases"] => packet_cases::print_all(output)?,
+        ["steps-cases"] => step_cases::print_all(output)?,
+        ["rack-cases"] => rack_cases::print_all(output)?,
+        ["night-cases"] => night_cases::print_all(output)?,
+        ["damaged-cases", number] => return damaged_case(number, output),
+        ["random-night", seed, events, ports] => return random(seed, events, ports, output),
+        _ => return Ok(wrong_arguments(USAGE)),
+    }
+    Ok(ExitCode::SUCCESS)
+}
+
+fn wrong_arguments(words: &str) -> ExitCode {
+    eprintln!("{words}");
+    ExitCode::from(WRONG_ARGUMENTS)
+}
+
+fn damaged_case(number: &str, output: impl Write) -> io::Result<ExitCode> {
+    let Ok(number) = number.parse() else {
+        return Ok(wrong_arguments(
+            "second damaged-cases: expected a number from 0 on",
+        ));
+    };
+    Ok(match damaged_cases::print(number, output)? {
+        true => ExitCode::SUCCESS,
+        false => ExitCode::from(PAST_THE_LAST),
+    })
+}
+
+fn random(seed: &str, events: &str, ports: &str, output: impl Write) -> io::Result<ExitCode> {
+    let numbers = (seed.parse(), events.parse(), ports.parse());
+    let (Ok(seed), Ok(events), Ok(ports @ 1..=rack::MOST_PORTS)) = numbers else {
+        return Ok(wrong_arguments(
+            "second random-night: expected three numbers: a seed, how many events, \
+             and how many ports, from 1 to 8",
+        ));
+    };
+    random_night::print(seed, events, ports, output)?;
+    Ok(ExitCode::SUCCESS)
 }

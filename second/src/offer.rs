@@ -2,9 +2,13 @@
 //! Request fits, "The Source states". Voltages, currents and power stay in the
 //! units of the fields: 50 mV, 10 mA, half a milliwatt.
 
+use std::ops::Deref;
+
 /// A fixed supply object. The bits that are ignored go out as they came in.
-#[derive(Clone, Copy, Debug, PartialEq, Eq)]
+#[derive(Clone, Copy, Debug, Default, PartialEq, Eq)]
 pub struct Object(pub u32);
+
+pub const MOST_OBJECTS: usize = 7;
 
 const FIVE_VOLT: u32 = 5_000 / 50;
 const MOST_VOLTAGE: u32 = 20_000 / 50;
@@ -13,6 +17,10 @@ const MOST_CURRENT: u32 = 5_000 / 10;
 impl Object {
     pub const fn new(voltage: u32, current: u32) -> Object {
         Object(voltage << 10 | current)
+    }
+
+    pub fn from_bytes(bytes: ObjectBytes) -> Object {
+        Object(u32::from_le_bytes(bytes))
     }
 
     fn is_fixed(self) -> bool {
@@ -27,22 +35,59 @@ impl Object {
         self.0 & 0x3FF
     }
 
+    pub fn bytes(self) -> ObjectBytes {
+        self.0.to_le_bytes()
+    }
+
     fn worth(self) -> u32 {
         self.voltage() * self.current()
     }
 }
 
-/// None unless there are four bytes, least first, to every object.
-pub fn objects_of(bytes: &[u8]) -> Option<Vec<Object>> {
-    let words = bytes.chunks(4).map(|word| word.try_into().ok());
-    words
-        .map(|word| word.map(|word| Object(u32::from_le_bytes(word))))
-        .collect()
+/// An object as it stands in a packet or a file, least byte first.
+pub type ObjectBytes = [u8; 4];
+
+/// None unless there are four bytes to every object.
+pub fn split(bytes: &[u8]) -> Option<&[ObjectBytes]> {
+    let (objects, rest) = bytes.as_chunks();
+    rest.is_empty().then_some(objects)
+}
+
+pub fn objects_of(objects: &[ObjectBytes]) -> Vec<Object> {
+    let objects = objects.iter().copied();
+    objects.map(Object::from_bytes).collect()
 }
 
 pub fn bytes_of(objects: &[Object]) -> Vec<u8> {
-    let words = objects.iter().map(|object| object.0.to_le_bytes());
+    let words = objects.iter().map(|object| object.bytes());
     words.collect::<Vec<_>>().concat()
+}
+
+/// The objects of an offer in place, good or bad; without any, it is none.
+#[derive(Clone, Copy, Debug, Default, PartialEq, Eq)]
+pub struct Offer {
+    objects: [Object; MOST_OBJECTS],
+    count: usize,
+}
+
+impl Offer {
+    /// None where there are more than seven.
+    pub fn of(objects: impl IntoIterator<Item = Object>) -> Option<Offer> {
+        let mut offer = Offer::default();
+        for object in objects {
+            *offer.objects.get_mut(offer.count)? = object;
+            offer.count += 1;
+        }
+        Some(offer)
+    }
+}
+
+impl Deref for Offer {
+    type Target = [Object];
+
+    fn deref(&self) -> &[Object] {
+        &self.objects[..self.count]
+    }
 }
 
 pub fn is_good(offer: &[Object], limit: u32) -> bool {
@@ -53,7 +98,7 @@ pub fn is_good(offer: &[Object], limit: u32) -> bool {
             && object.worth() <= limit
     };
     let rising = |pair: &[Object]| pair[0].voltage() < pair[1].voltage();
-    offer.len() <= 7
+    offer.len() <= MOST_OBJECTS
         && offer.iter().all(each)
         && offer.windows(2).all(rising)
         && offer.first().map(|object| object.voltage()) == Some(FIVE_VOLT)

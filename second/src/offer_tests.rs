@@ -10,7 +10,7 @@ const MOST: u32 = 200_000;
 #[test]
 fn the_night_desk_objects() {
     let bytes = [0x2C, 0x91, 0x01, 0x00, 0x2C, 0xD1, 0x02, 0x00];
-    let objects = objects_of(&bytes).unwrap();
+    let objects = objects_of(split(&bytes).unwrap());
     assert_eq!(objects, [FIVE_VOLT, NINE_VOLT]);
     assert_eq!(bytes_of(&objects), bytes);
     let values = |object: Object| (object.voltage(), object.current(), object.worth());
@@ -21,10 +21,21 @@ fn the_night_desk_objects() {
 
 #[test]
 fn an_object_has_four_bytes() {
-    assert_eq!(objects_of(&[]), Some(vec![]));
+    assert_eq!(split(&[]), Some(&[][..]));
     for count in [1, 2, 3, 5, 6, 7, 9] {
-        assert_eq!(objects_of(&[0; 64][..count]), None, "{count}");
+        assert_eq!(split(&[0; 64][..count]), None, "{count}");
     }
+}
+
+#[test]
+fn an_offer_keeps_up_to_seven_objects_in_place() {
+    let rising: Vec<Object> = (100..110).map(|voltage| Object::new(voltage, 1)).collect();
+    for count in 0..=10 {
+        let offer = Offer::of(rising[..count].iter().copied());
+        let expected = (count <= 7).then_some(&rising[..count]);
+        assert_eq!(offer.as_deref(), expected);
+    }
+    assert_eq!(Offer::of([]), Some(Offer::default()));
 }
 
 #[test]

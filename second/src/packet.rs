@@ -16,7 +16,7 @@ pub struct Fields {
 const HEADER_BYTES: usize = 2;
 const OBJECT_BYTES: usize = 4;
 const MOST_OBJECT_BYTES: usize = 28;
-const MOST_PACKET_BYTES: usize = HEADER_BYTES + MOST_OBJECT_BYTES;
+pub const MOST_PACKET_BYTES: usize = HEADER_BYTES + MOST_OBJECT_BYTES;
 
 /// The fields or the refusal number, and the object bytes as that part of the
 /// packet itself (empty where reading is refused).

@@ -4,17 +4,22 @@
 use super::*;
 use crate::packet_lines::answer_all;
 use std::collections::BTreeMap;
+use std::sync::OnceLock;
 
-fn all_lines() -> Vec<u8> {
-    let mut lines = Vec::new();
-    print_all(&mut lines).unwrap();
-    lines
+/// Made once, for they are many.
+fn all_lines() -> &'static [u8] {
+    static LINES: OnceLock<Vec<u8>> = OnceLock::new();
+    LINES.get_or_init(|| {
+        let mut lines = Vec::new();
+        print_all(&mut lines).unwrap();
+        lines
+    })
 }
 
 #[test]
 fn every_answer_turns_up() {
     let mut output = Vec::new();
-    answer_all(&all_lines()[..], &mut output).unwrap();
+    answer_all(all_lines(), &mut output).unwrap();
     let output = String::from_utf8(output).unwrap();
     let mut counts = BTreeMap::new();
     for line in output.lines() {

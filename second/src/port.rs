@@ -3,7 +3,8 @@
 
 use crate::channel::{Channel, Outcome};
 use crate::meaning::{kind, meaning, Meaning};
-use crate::offer::{is_good, Deal, Object};
+use crate::message::Message;
+use crate::offer::{is_good, Deal, Object, ObjectBytes, Offer};
 use crate::packet::{good_crc, read};
 
 #[derive(Clone, Copy, Debug, PartialEq, Eq, PartialOrd, Ord)]
@@ -33,17 +34,19 @@ pub enum Timer {
     PsHardReset,
 }
 
-#[derive(Clone, Debug, PartialEq, Eq)]
-pub enum Event {
+/// Borrows its bytes, so that they stay where they were read.
+#[derive(Clone, Copy, Debug, PartialEq, Eq)]
+pub enum Event<'a> {
     Attach,
     Detach,
-    Packet(Vec<u8>),
+    Packet(&'a [u8]),
     HardReset,
     /// The acknowledgement timer, which goes with transmit.
     NotAcknowledged,
     Expired(Timer),
     SupplyReady,
-    NewOffer(Vec<Object>),
+    /// Any number of objects, so that one of too many can be refused.
+    NewOffer(&'a [ObjectBytes]),
     /// The power answer: yes or no.
     Power(bool),
 }
@@ -70,7 +73,7 @@ pub enum Held {
 pub struct Answer {
     pub good_crc: Option<[u8; 2]>,
     pub stop: Option<Timer>,
-    pub transmit: Option<Vec<u8>>,
+    pub transmit: Option<Message>,
     pub signal: bool,
     pub supply: Option<Supply>,
     pub start: Option<Timer>,
@@ -81,9 +84,10 @@ pub struct Answer {
 pub struct Port {
     pub state: State,
     pub channel: Channel,
-    pub newest: Vec<Object>,
+    pub newest: Offer,
     pub gone_out: bool,
-    pub last: Vec<Object>,
+    /// Without objects while there is none.
+    pub last: Offer,
     /// Written as soon as a Request is to be judged: there is no other place for
     /// it until the power answer comes.
     pub accepted: Deal,
@@ -100,13 +104,13 @@ const BAD_OFFER: u8 = 7;
 
 impl Port {
     /// Detached. A bad first offer is the caller's to refuse.
-    pub fn new(newest: Vec<Object>) -> Port {
+    pub fn new(newest: Offer) -> Port {
         Port {
             state: State::Detached,
             channel: Channel::default(),
             newest,
             gone_out: false,
-            last: Vec::new(),
+            last: Offer::default(),
             accepted: Deal::default(),
             contract: None,
             held: 0,
@@ -119,13 +123,12 @@ impl Port {
     /// Takes an event, or refuses it with a number and changes nothing. A new
     /// offer is judged by this limit.
     pub fn step(&mut self, event: &Event, limit: u32) -> Result<Answer, u8> {
-        let mut next = self.clone();
         let mut answer = Answer::default();
-        next.take(event, limit, &mut answer)?;
-        *self = next;
+        self.take(event, limit, &mut answer)?;
         Ok(answer)
     }
 
+    /// What is refused is refused before anything changes.
     fn take(&mut self, event: &Event, limit: u32, answer: &mut Answer) -> Result<(), u8> {
         match (event, self.state) {
             (Event::Packet(bytes), _) => return self.packet(bytes, answer),
@@ -180,16 +183,20 @@ impl Port {
         match outcome {
             Outcome::NothingPending => {}
             Outcome::Acknowledged => self.acknowledged(answer),
-            Outcome::Again(bytes) => answer.transmit = Some(bytes),
+            Outcome::Again(message) => answer.transmit = Some(message),
             Outcome::Failed => self.failed(answer),
         }
     }
 
-    fn new_offer(&mut self, offer: &[Object], limit: u32, answer: &mut Answer) -> Result<(), u8> {
-        if !is_good(offer, limit) {
-            return Err(BAD_OFFER);
-        }
-        self.newest = offer.to_vec();
+    fn new_offer(
+        &mut self,
+        offer: &[ObjectBytes],
+        limit: u32,
+        answer: &mut Answer,
+    ) -> Result<(), u8> {
+        let offer = Offer::of(offer.iter().copied().map(Object::from_bytes));
+        let good = offer.filter(|offer| is_good(offer, limit));
+        self.newest = good.ok_or(BAD_OFFER)?;
         self.gone_out = false;
         if matches!(self.state, State::Ready | State::Waiting) {
             self.enter(State::Offer, answer);

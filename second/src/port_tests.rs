@@ -3,6 +3,7 @@
 
 use super::*;
 use crate::step_situations::after as walk;
+use crate::step_walk::FIVE_VOLT;
 
 #[test]
 fn held_power_is_let_go_only_when_the_output_has_moved() {
@@ -34,8 +35,8 @@ fn a_new_offer_leads_to_offer_from_ready_and_waiting_alone() {
     ] {
         let port = walk(way).port().clone();
         assert_eq!((port.state, port.gone_out), (State::Offer, true), "{way}");
-        let sent = port.channel.pending.unwrap().bytes;
-        assert_eq!(sent, [&header[..], &[0x2C, 0x91, 0x01, 0x00]].concat());
+        let sent = port.channel.pending.unwrap().message;
+        assert_eq!(*sent, [&header[..], &[0x2C, 0x91, 0x01, 0x00]].concat());
     }
     // A Request is judged by the last offer on the wire, not by the newest.
     assert_eq!(walk("attach new-one ask2").port().state, State::Judge);
@@ -53,7 +54,7 @@ fn elsewhere_a_new_offer_is_kept_and_nothing_else() {
         "contract1 ask2",
     ] {
         let mut expected = walk(way).port().clone();
-        expected.newest.truncate(1);
+        expected.newest = Offer::of([FIVE_VOLT]).unwrap();
         expected.gone_out = false;
         let kept = walk(&format!("{way} new-one"));
         assert_eq!(*kept.port(), expected, "{way}");
@@ -75,14 +76,13 @@ fn detach_clears_all_but_the_newest_offer() {
 
 #[test]
 fn what_is_wrong_with_the_bytes_goes_before_the_state() {
-    let offer = crate::offer::objects_of(&[0x2C, 0xD1, 0x02, 0x00]).unwrap();
     let events = [
-        (Event::Packet(vec![0x82]), 1),
-        (Event::Packet(vec![0; 31]), 2),
-        (Event::Packet(vec![0x82, 0x10]), 3),
-        (Event::Packet(vec![0x82, 0x90, 0, 0, 0, 0]), 4),
-        (Event::NewOffer(offer), 7),
-        (Event::Packet(vec![0x81, 0x00]), 8),
+        (Event::Packet(&[0x82]), 1),
+        (Event::Packet(&[0; 31]), 2),
+        (Event::Packet(&[0x82, 0x10]), 3),
+        (Event::Packet(&[0x82, 0x90, 0, 0, 0, 0]), 4),
+        (Event::NewOffer(&[[0x2C, 0xD1, 0x02, 0x00]]), 7),
+        (Event::Packet(&[0x81, 0x00]), 8),
         (Event::HardReset, 8),
         (Event::NotAcknowledged, 8),
         (Event::SupplyReady, 8),

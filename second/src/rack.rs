@@ -2,7 +2,7 @@
 //! and the "Power rule", by which ports share one supply. What a port does with
 //! an event stands in port.rs and states.rs.
 
-use crate::offer::{is_good, Object};
+use crate::offer::{is_good, Object, Offer};
 use crate::port::{Answer, Event, Port, State};
 
 pub const MOST_PORTS: usize = 8;
@@ -67,6 +67,17 @@ pub struct Bay {
 }
 
 impl Bay {
+    /// Of a good set-up.
+    fn at(place: &Place) -> Bay {
+        let offer = Offer::of(place.offer.iter().copied());
+        let offer = offer.expect("a good offer has at most seven objects");
+        Bay {
+            share: place.share,
+            limit: place.limit,
+            port: Port::new(offer),
+        }
+    }
+
     /// The share is kept for the port even while it holds less, or nothing.
     pub fn taken(&self) -> u32 {
         self.share.max(self.port.held)
@@ -79,11 +90,7 @@ impl Rack {
         if !set_up.is_good() {
             return Err(BAD_SET_UP);
         }
-        let bays = set_up.places.iter().map(|place| Bay {
-            share: place.share,
-            limit: place.limit,
-            port: Port::new(place.offer.clone()),
-        });
+        let bays = set_up.places.iter().map(Bay::at);
         Ok(Rack {
             supply: set_up.supply,
             bays: bays.collect(),
@@ -98,14 +105,15 @@ impl Rack {
     /// Takes an event at a port, or refuses it with a number and changes nothing.
     /// Where the port asks for power, the answer comes within the same event.
     pub fn step(&mut self, number: usize, event: &Event) -> Result<Answer, u8> {
-        let limit = self.bay(number).ok_or(NOT_IN_THE_RACK)?.limit;
-        let place = number - 1;
-        let first = self.bays[place].port.step(event, limit)?;
-        if self.bays[place].port.state != State::Judge {
+        let place = number.checked_sub(1).ok_or(NOT_IN_THE_RACK)?;
+        let bay = self.bays.get_mut(place).ok_or(NOT_IN_THE_RACK)?;
+        let first = bay.port.step(event, bay.limit)?;
+        if bay.port.state != State::Judge {
             return Ok(first);
         }
         let answer = Event::Power(self.has_power(place));
-        let then = self.bays[place].port.step(&answer, limit);
+        let bay = &mut self.bays[place];
+        let then = bay.port.step(&answer, bay.limit);
         Ok(both(first, then.expect("Judge awaits the power answer")))
     }
 

@@ -42,7 +42,7 @@ fn ask(walk: &mut Walk, number: usize, position: u32, current: u32) {
     walk.hear(REQUEST, &request(position, current, current));
 }
 
-fn example_8(walk: &mut Walk) {
+pub fn example_8(walk: &mut Walk) {
     // 36,000, 36,180 and 30,000
     for (position, current) in [(2, 200), (2, 201), (1, 300)] {
         // as it stands, and with contracts in force before the next one asks
@@ -59,7 +59,7 @@ fn example_8(walk: &mut Walk) {
     }
 }
 
-fn example_7(walk: &mut Walk) {
+pub fn example_7(walk: &mut Walk) {
     for number in 1..=4 {
         walk.set_up(&alike(240_000, 4, &[FIVE_VOLT, NINE_VOLT]));
         walk.turn_to(number);
@@ -72,7 +72,7 @@ fn example_7(walk: &mut Walk) {
 }
 
 /// Every port asks for all it may have: the last one just gets it, or just not.
-fn whole_supply(walk: &mut Walk) {
+pub fn whole_supply(walk: &mut Walk) {
     let place = Place {
         share: 30_000,
         limit: 200_000,
@@ -94,7 +94,7 @@ fn whole_supply(walk: &mut Walk) {
 }
 
 /// An offer that is good at one port and bad at its neighbour.
-fn own_limits(walk: &mut Walk) {
+pub fn own_limits(walk: &mut Walk) {
     let limits = [30_000, 53_999, 54_000, 120_000, 200_000];
     let places = limits.map(|limit| Place {
         share: 30_000,
@@ -154,7 +154,7 @@ fn numbers(walk: &mut Walk) {
 
 /// The power answer from outside, in every state that a port of a rack can be in,
 /// and after a yes and a no of the rack itself.
-fn not_awaited(walk: &mut Walk) {
+pub fn not_awaited(walk: &mut Walk) {
     let roomy = rack_situations::ROOMY.iter().map(|way| (240_000, way));
     let tight = rack_situations::TIGHT.iter().map(|way| (120_000, way));
     for (supply, &(_, way)) in roomy.chain(tight) {

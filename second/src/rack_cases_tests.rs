@@ -46,9 +46,9 @@ struct Judged {
 /// What the port asks for at this line, if it then awaits a power answer.
 fn asked(line: &[u8], bay: &Bay) -> Option<u32> {
     let text = line.windows(6).position(|word| word == b"packet")?;
-    let packet = Event::Packet(hex::bytes_of(&line[text + 6..])?);
+    let bytes = hex::bytes_of(&line[text + 6..])?;
     let mut alone = bay.port.clone();
-    alone.step(&packet, bay.limit).ok()?;
+    alone.step(&Event::Packet(&bytes), bay.limit).ok()?;
     (alone.state == State::Judge).then_some(alone.accepted.worth)
 }
 

@@ -1,34 +1,45 @@
 //! The lines about a rack, docs/STEPS.md ("A rack"): a set-up is put together
 //! line by line, tried as a whole, and then events come to numbered ports.
 
+use crate::offer::{objects_of, split};
 use crate::port::{Answer, Event};
 use crate::rack::{Place, Rack, SetUp};
 use crate::step_lines::Reply;
 use crate::step_text::{memory_text, outcome_text};
-use crate::step_words::{event_of, number_of, offer_of, MOST_DIGITS};
+use crate::step_words::{bytes_of, event_of, number_of, Limits};
 
-const MOST_DIGITS_OF_A_PORT: usize = 3;
-
-pub enum RackLine {
+pub enum RackLine<'a> {
     Supply(u32),
     Place(Place),
     SetUp,
-    At(usize, Event),
+    At(usize, Event<'a>),
+}
+
+/// Whether a line with this first word is about a rack, if it is understood at all.
+pub fn begin_with(first: &[u8]) -> bool {
+    matches!(first, b"supply" | b"place" | b"setup" | [b'0'..=b'9', ..])
 }
 
 /// By the line's first word and the words behind it; None where it is no such line.
-pub fn understand(first: &[u8], others: &[&[u8]]) -> Option<RackLine> {
+/// The bytes of an event are put into the place that is lent for them.
+pub fn understand<'a>(
+    first: &[u8],
+    others: &[&[u8]],
+    limits: &Limits,
+    place: &'a mut Vec<u8>,
+) -> Option<RackLine<'a>> {
     match (first, others) {
-        (b"supply", [supply]) => Some(RackLine::Supply(number_of(supply, MOST_DIGITS)?)),
+        (b"supply", [supply]) => Some(RackLine::Supply(number_of(supply, limits.digits)?)),
         (b"place", [share, limit, offer @ ..]) => Some(RackLine::Place(Place {
-            share: number_of(share, MOST_DIGITS)?,
-            limit: number_of(limit, MOST_DIGITS)?,
-            offer: offer_of(offer)?,
+            share: number_of(share, limits.digits)?,
+            limit: number_of(limit, limits.digits)?,
+            offer: objects_of(split(&bytes_of(offer, limits.bytes)?)?),
         })),
         (b"setup", []) => Some(RackLine::SetUp),
         (number, [word, others @ ..]) => {
-            let number = number_of(number, MOST_DIGITS_OF_A_PORT)?;
-            Some(RackLine::At(number as usize, event_of(word, others)?))
+            let number = number_of(number, limits.port_digits)?;
+            let event = event_of(word, others, limits.bytes, place)?;
+            Some(RackLine::At(number as usize, event))
         }
         _ => None,
     }

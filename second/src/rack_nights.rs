@@ -51,7 +51,7 @@ fn some_set_up(chance: &mut Chance, ports: usize) -> SetUp {
     }
 }
 
-fn some_place(chance: &mut Chance, usual: u32) -> Place {
+pub fn some_place(chance: &mut Chance, usual: u32) -> Place {
     let limit = chance.one_of(&[usual, usual, usual, usual, 54_000, 200_000]);
     let share = chance.one_of(&[30_000, 30_000, 30_000, 30_000, 40_000, limit]);
     let offer = strong_offer(chance, limit);

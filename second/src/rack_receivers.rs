@@ -13,14 +13,14 @@ use crate::step_walk::{
 /// How many moves of a hundred are by chance, miss what there is to hear, send the
 /// last packet again, or do what the port does not wait for.
 #[derive(Clone, Copy)]
-struct Manner {
+pub struct Manner {
     hostile: usize,
     deaf: usize,
     again: usize,
     restless: usize,
 }
 
-const fn manner(hostile: usize, deaf: usize, again: usize, restless: usize) -> Manner {
+pub const fn manner(hostile: usize, deaf: usize, again: usize, restless: usize) -> Manner {
     Manner {
         hostile,
         deaf,
@@ -55,8 +55,12 @@ pub struct Receiver {
 
 impl Receiver {
     pub fn new(chance: &mut Chance) -> Receiver {
+        Receiver::with(chance.one_of(&MANNERS))
+    }
+
+    pub fn with(manner: Manner) -> Receiver {
         Receiver {
-            manner: chance.one_of(&MANNERS),
+            manner,
             said: Vec::new(),
             wish: None,
             sated: false,

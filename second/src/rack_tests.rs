@@ -53,10 +53,10 @@ fn night_desk_7() {
             (before.channel.counter, before.channel.stored),
             (3, Some(0))
         );
-        let packet = Event::Packet(vec![0x82, 0x12, 0x2C, 0xB1, 0x04, 0x20]);
+        let packet = Event::Packet(&[0x82, 0x12, 0x2C, 0xB1, 0x04, 0x20]);
         let answer = rack.step(number, &packet).unwrap();
         assert_eq!(answer.good_crc, Some([0xA1, 0x03]));
-        assert_eq!(answer.transmit, Some(vec![0xA3, 0x07]));
+        assert_eq!(answer.transmit.as_deref(), Some(&[0xA3, 0x07][..]));
         assert_eq!((answer.stop, answer.start), (None, None));
         assert_eq!((answer.signal, answer.supply), (false, None));
         let port = &rack.bay(number).unwrap().port;
@@ -133,7 +133,9 @@ fn every_port_of_a_new_rack_is_detached_with_its_own_offer() {
     set_up.places[1].offer.push(NINE_VOLT);
     let rack = Rack::set_up(&set_up).unwrap();
     for (bay, place) in rack.bays.iter().zip(&set_up.places) {
-        assert_eq!(bay.port, Port::new(place.offer.clone()));
+        let offer = Offer::of(place.offer.iter().copied()).unwrap();
+        assert_eq!(bay.port, Port::new(offer));
+        assert_eq!(*bay.port.newest, place.offer);
         assert_eq!((bay.share, bay.limit), (place.share, place.limit));
     }
     assert!(rack.bay(0).is_none() && rack.bay(4).is_none());
@@ -143,7 +145,7 @@ fn every_port_of_a_new_rack_is_detached_with_its_own_offer() {
 /// A rack in which the first port asks and two others hold what they hold.
 fn answer(supply: u32, limit: u32, shares: [u32; 3], held: [u32; 3], asked: u32) -> bool {
     let bays = shares.iter().zip(held).map(|(&share, held)| {
-        let mut port = Port::new(vec![FIVE_VOLT]);
+        let mut port = Port::new(Offer::of([FIVE_VOLT]).unwrap());
         port.held = held;
         Bay { share, limit, port }
     });
@@ -217,7 +219,7 @@ fn power_is_free_when_the_output_has_moved_and_not_before() {
 /// One action in each step: the timer that the Request stops, and the Accept.
 #[test]
 fn the_actions_of_both_steps_are_one_set() {
-    for (supply, transmit, held) in [
+    for (supply, bytes, held) in [
         (240_000, [0xA3, 0x03], crate::port::Held::Accepted),
         (120_000, [0xA4, 0x03], crate::port::Held::Nothing),
     ] {
@@ -225,21 +227,24 @@ fn the_actions_of_both_steps_are_one_set() {
         walk.turn_to(3);
         go_in_rack(&mut walk, "attach acked");
         let mut rack = walk.rack().clone();
-        let packet = Event::Packet(vec![0x82, 0x10, 0x2C, 0xB1, 0x04, 0x20]);
+        let packet = Event::Packet(&[0x82, 0x10, 0x2C, 0xB1, 0x04, 0x20]);
+        let answer = rack.step(3, &packet).unwrap();
+        let transmit = answer.transmit;
+        assert_eq!(transmit.as_deref(), Some(&bytes[..]));
         let expected = Answer {
             good_crc: Some([0xA1, 0x01]),
             stop: Some(Timer::SenderResponse),
-            transmit: Some(transmit.to_vec()),
+            transmit,
             held,
             ..Answer::default()
         };
-        assert_eq!(rack.step(3, &packet), Ok(expected));
+        assert_eq!(answer, expected);
     }
     let mut walk = four_ports(240_000);
     walk.turn_to(3);
     go_in_rack(&mut walk, "attach acked ask2");
     let mut rack = walk.rack().clone();
-    let moving = rack.step(3, &Event::Packet(vec![0x81, 0x02])).unwrap();
+    let moving = rack.step(3, &Event::Packet(&[0x81, 0x02])).unwrap();
     assert_eq!(moving.supply, Some(Supply::Position(2)));
 }
 
@@ -250,15 +255,15 @@ fn a_refusal_changes_nothing_and_9_comes_first() {
     go_in_rack(&mut walk, "contract2");
     let mut rack = walk.rack().clone();
     let before = rack.clone();
-    let eight_objects = vec![FIVE_VOLT; 8];
+    let eight_objects = [FIVE_VOLT.bytes(); 8];
     for (event, number) in [
-        (Event::Packet(vec![0x82]), 1),
-        (Event::Packet(vec![0; 31]), 2),
-        (Event::Packet(vec![0x82, 0x10]), 3),
-        (Event::Packet(vec![0x82, 0x90, 0, 0, 0, 0]), 4),
-        (Event::NewOffer(eight_objects), 7),
+        (Event::Packet(&[0x82]), 1),
+        (Event::Packet(&[0; 31]), 2),
+        (Event::Packet(&[0x82, 0x10]), 3),
+        (Event::Packet(&[0x82, 0x90, 0, 0, 0, 0]), 4),
+        (Event::NewOffer(&eight_objects), 7),
         (
-            Event::NewOffer(vec![Object::new(100, 500), Object::new(400, 301)]),
+            Event::NewOffer(&[Object::new(100, 500), Object::new(400, 301)].map(Object::bytes)),
             7,
         ),
         (Event::Attach, 8),
@@ -281,7 +286,8 @@ fn an_event_is_for_one_port_and_an_offer_for_its_limit() {
     let mut set_up = alike(240_000, 3, &[FIVE_VOLT]);
     set_up.places[2].limit = 53_999;
     let mut rack = Rack::set_up(&set_up).unwrap();
-    let offer = Event::NewOffer(vec![FIVE_VOLT, NINE_VOLT]);
+    let offer = [FIVE_VOLT, NINE_VOLT].map(Object::bytes);
+    let offer = Event::NewOffer(&offer);
     assert_eq!(rack.step(3, &offer), Err(7));
     assert_eq!(rack, Rack::set_up(&set_up).unwrap());
     assert!(rack.step(2, &offer).is_ok() && rack.step(2, &Event::Attach).is_ok());

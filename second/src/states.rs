@@ -2,7 +2,7 @@
 //! the end of a send, a packet, a timer or an answer leads from it.
 
 use crate::meaning::Meaning;
-use crate::offer::{asked, bytes_of, honours};
+use crate::offer::{asked, honours, Object};
 use crate::port::{Answer, Held, Port, State, Supply, Timer};
 
 const SOURCE_CAPABILITIES: u8 = 1;
@@ -51,14 +51,14 @@ impl Port {
     }
 
     fn make_offer(&mut self, answer: &mut Answer) {
-        self.last = self.newest.clone();
+        self.last = self.newest;
         self.gone_out = true;
         self.count = MOST_OFFERS.min(self.count + 1);
-        let objects = bytes_of(&self.last);
-        self.transmit(SOURCE_CAPABILITIES, &objects, answer);
+        let offer = self.last;
+        self.transmit(SOURCE_CAPABILITIES, &offer, answer);
     }
 
-    fn transmit(&mut self, message_type: u8, objects: &[u8], answer: &mut Answer) {
+    fn transmit(&mut self, message_type: u8, objects: &[Object], answer: &mut Answer) {
         debug_assert_eq!(answer.transmit, None, "two messages at once");
         answer.transmit = Some(self.channel.send(message_type, objects));
     }
@@ -71,7 +71,7 @@ impl Port {
 
     pub fn detach(&mut self, answer: &mut Answer) {
         self.enter(State::Detached, answer);
-        *self = Port::new(std::mem::take(&mut self.newest));
+        *self = Port::new(self.newest);
         answer.held = Held::GivenUp;
     }
 

@@ -8,7 +8,7 @@ use crate::step_walk::{
     GET_SOURCE_CAP, GOOD_CRC, NINE_VOLT, REQUEST, SOFT_RESET,
 };
 
-const LONE_WORDS: [&str; 10] = [
+pub const LONE_WORDS: [&str; 10] = [
     "attach",
     "detach",
     "hardreset",
@@ -100,7 +100,7 @@ pub fn bad_offers() -> Vec<Vec<Object>> {
 }
 
 /// Refused with 1, 2, 3 and 4, in that order.
-fn malformed_packets() -> Vec<Vec<u8>> {
+pub fn malformed_packets() -> Vec<Vec<u8>> {
     let headed = |header: [u8; 2], length: usize| {
         let mut bytes = vec![0; length];
         bytes[..2].copy_from_slice(&header);

@@ -2,12 +2,12 @@
 //! whole memory out. The rules are the paper's; here they are only put into text.
 //! The lines about a rack stand in rack_lines.rs.
 
-use crate::offer::{is_good, Object};
+use crate::lines;
+use crate::offer::{is_good, split, Object, Offer};
 use crate::port::{Answer, Event, Port};
 use crate::rack_lines::{self, RackBench, RackLine};
 use crate::step_text::{memory_text, outcome_text};
-use crate::step_words::{event_of, number_of, offer_of, MOST_DIGITS};
-use crate::{hex, lines};
+use crate::step_words::{bytes_of, event_of, number_of, words_of, STEPS};
 use std::io::{self, BufRead, Write};
 
 const MOST_CHARACTERS: usize = 240;
@@ -26,10 +26,10 @@ pub struct Bench {
     pub beside: RackBench,
 }
 
-enum Line {
-    NewPort(u32, Vec<Object>),
-    Event(Event),
-    Rack(RackLine),
+enum Line<'a> {
+    NewPort(u32, Option<Offer>),
+    Event(Event<'a>),
+    Rack(RackLine<'a>),
 }
 
 /// What a line that was understood came to.
@@ -45,8 +45,10 @@ pub enum Reply {
 impl Bench {
     /// The paper's two objects: 5 V 3 A and 9 V 3 A.
     pub fn new() -> Bench {
+        let offer = Offer::of([Object::new(100, 300), Object::new(180, 300)]);
+        let offer = offer.expect("two objects are not too many");
         Bench {
-            port: Port::new(vec![Object::new(100, 300), Object::new(180, 300)]),
+            port: Port::new(offer),
             limit: 120_000,
             beside: RackBench::default(),
         }
@@ -63,41 +65,41 @@ impl Bench {
 
     /// None where the line is not understood.
     pub fn take(&mut self, line: &[u8]) -> Option<Reply> {
-        Some(match understand(line)? {
+        let mut bytes = Vec::new();
+        Some(match understand(line, &mut bytes)? {
             Line::Event(event) => Reply::Alone(self.port.step(&event, self.limit)),
             Line::NewPort(limit, offer) => Reply::Alone(self.new_port(limit, offer)),
             Line::Rack(line) => self.beside.take(line),
         })
     }
 
-    fn new_port(&mut self, limit: u32, offer: Vec<Object>) -> Result<Answer, u8> {
-        if !is_good(&offer, limit) {
-            return Err(BAD_OFFER);
-        }
-        self.port = Port::new(offer);
+    /// There is no offer where the line has too many objects for one.
+    fn new_port(&mut self, limit: u32, offer: Option<Offer>) -> Result<Answer, u8> {
+        let good = offer.filter(|offer| is_good(offer, limit));
+        self.port = Port::new(good.ok_or(BAD_OFFER)?);
         self.limit = limit;
         Ok(Answer::default())
     }
 }
 
-fn understand(line: &[u8]) -> Option<Line> {
+/// The bytes of an event are put into the place that is lent for them.
+fn understand<'a>(line: &[u8], place: &'a mut Vec<u8>) -> Option<Line<'a>> {
     if line.len() > MOST_CHARACTERS {
         return None;
     }
-    let blanks = line.iter().rev().take_while(|&&c| hex::is_blank(c)).count();
-    let line = &line[..line.len() - blanks];
-    // Spaces part the words; the first word has none before it, so that one there
-    // makes a first word of no letters, which is unknown.
-    let mut words = line.split(|&character| character == b' ');
-    let first = words.next()?;
-    let others: Vec<_> = words.filter(|word| !word.is_empty()).collect();
+    let (first, others) = words_of(line);
     if first == b"port" {
         let (limit, bytes) = others.split_first()?;
-        let limit = number_of(limit, MOST_DIGITS)?;
-        return Some(Line::NewPort(limit, offer_of(bytes)?));
+        let limit = number_of(limit, STEPS.digits)?;
+        let bytes = bytes_of(bytes, STEPS.bytes)?;
+        let objects = split(&bytes)?.iter().copied();
+        let offer = Offer::of(objects.map(Object::from_bytes));
+        return Some(Line::NewPort(limit, offer));
     }
-    let event = event_of(first, &others).map(Line::Event);
-    event.or_else(|| rack_lines::understand(first, &others).map(Line::Rack))
+    if rack_lines::begin_with(first) {
+        return rack_lines::understand(first, &others, &STEPS, place).map(Line::Rack);
+    }
+    event_of(first, &others, STEPS.bytes, place).map(Line::Event)
 }
 
 #[cfg(test)]

@@ -4,6 +4,7 @@
 use crate::chance::Chance;
 use crate::offer::Object;
 use crate::port::State;
+use crate::step_events::LONE_WORDS;
 use crate::step_situations::go;
 use crate::step_walk::{
     message, new_id, offer_line, pending_id, request, Walk, ACCEPT, GET_SOURCE_CAP, GOOD_CRC,
@@ -137,20 +138,8 @@ pub fn some_offer(walk: &mut Walk, chance: &mut Chance) {
 }
 
 pub fn anything(walk: &mut Walk, chance: &mut Chance) {
-    const WORDS: [&str; 10] = [
-        "attach",
-        "detach",
-        "hardreset",
-        "acknowledgement",
-        "senderresponse",
-        "sourcecapability",
-        "pshardreset",
-        "supplyready",
-        "yes",
-        "no",
-    ];
     match chance.below(10) {
-        0..=1 => walk.say(chance.one_of(&WORDS)),
+        0..=1 => walk.say(chance.one_of(&LONE_WORDS)),
         2 => some_offer(walk, chance),
         3 => ask(walk, chance),
         4 => {

@@ -2,18 +2,28 @@
 
 use crate::offer::{bytes_of, Deal};
 use crate::port::{Answer, Held, Port, Supply, Timer};
+use crate::rack::Place;
 use crate::{hex, refusal};
 
 /// The memory is text already, for there is not always a port to show.
 pub fn outcome_text(outcome: &Result<Answer, u8>, memory: &str) -> String {
-    let (text, held) = match outcome {
-        Ok(answer) => (actions_text(answer), answer.held),
-        Err(number) => (refusal::text_of(*number), Held::Nothing),
-    };
+    let text = or_refusal(outcome, |answer| {
+        format!("actions: {}", actions_text(answer))
+    });
+    let held = outcome.as_ref().map_or(Held::Nothing, |answer| answer.held);
     format!("{text} | held: {} | {memory}", held_word(held))
 }
 
-fn actions_text(answer: &Answer) -> String {
+/// The text of what was taken, or the refusal's number and words.
+pub fn or_refusal<T>(outcome: &Result<T, u8>, text_of: impl Fn(&T) -> String) -> String {
+    match outcome {
+        Ok(taken) => text_of(taken),
+        Err(number) => refusal::text_of(*number),
+    }
+}
+
+/// In the paper's order, or `none`.
+pub fn actions_text(answer: &Answer) -> String {
     let transmit = answer.transmit.as_ref();
     let actions = [
         answer
@@ -34,8 +44,22 @@ fn actions_text(answer: &Answer) -> String {
     ];
     let actions: Vec<String> = actions.into_iter().flatten().collect();
     match actions.is_empty() {
-        true => "actions: none".to_string(),
-        false => format!("actions: {}", actions.join("; ")),
+        true => "none".to_string(),
+        false => actions.join("; "),
+    }
+}
+
+/// The line of a set-up that has this place.
+pub fn place_line(place: &Place) -> String {
+    let words = format!("place {} {}", place.share, place.limit);
+    with_bytes(&words, &bytes_of(&place.offer))
+}
+
+/// Words, and bytes behind them if there are any.
+pub fn with_bytes(words: &str, bytes: &[u8]) -> String {
+    match bytes {
+        [] => words.to_string(),
+        _ => format!("{words} {}", hex::text_of(bytes)),
     }
 }
 
@@ -49,7 +73,7 @@ pub fn memory_text(port: &Port) -> String {
         port.state,
         channel.counter,
         stored.unwrap_or("none".to_string()),
-        hex::text_or_dash(pending.map_or(&[], |pending| &pending.bytes)),
+        hex::text_or_dash(pending.map_or(&[], |pending| &pending.message)),
         pending.map_or(0, |pending| pending.retries),
         hex::text_of(&bytes_of(&port.newest)),
         yes_or_no(port.gone_out),

@@ -2,12 +2,12 @@
 //! written, so that the next line can depend on where the port has come to. The
 //! port is the one that stands alone, or one of a rack.
 
-use crate::hex;
 use crate::offer::{bytes_of, Object};
 use crate::packet::{read, write, Fields};
 use crate::port::Port;
-use crate::rack::{Bay, Place, Rack, SetUp};
+use crate::rack::{Bay, Rack, SetUp};
 use crate::step_lines::Bench;
+use crate::step_text::{place_line, with_bytes};
 
 pub const GOOD_CRC: u8 = 1;
 pub const ACCEPT: u8 = 3;
@@ -124,7 +124,7 @@ pub fn request(position: u32, current: u32, most_current: u32) -> [u8; 4] {
 /// With nothing pending, that of the next message.
 pub fn pending_id(port: &Port) -> u8 {
     let pending = port.channel.pending.as_ref();
-    let fields = pending.map(|pending| read(&pending.bytes).0);
+    let fields = pending.map(|pending| read(&pending.message).0);
     match fields {
         Some(Ok(fields)) => fields.message_id,
         _ => port.channel.counter,
@@ -141,16 +141,4 @@ pub fn packet_line(bytes: &[u8]) -> String {
 
 pub fn offer_line(objects: &[Object]) -> String {
     with_bytes("offer", &bytes_of(objects))
-}
-
-pub fn place_line(place: &Place) -> String {
-    let words = format!("place {} {}", place.share, place.limit);
-    with_bytes(&words, &bytes_of(&place.offer))
-}
-
-fn with_bytes(words: &str, bytes: &[u8]) -> String {
-    match bytes {
-        [] => words.to_string(),
-        _ => format!("{words} {}", hex::text_of(bytes)),
-    }
 }
