@@ -70,7 +70,7 @@ pub fn pack(f: Fields, objects: u8) -> u16
 }
 
 // The byte at a place; zero past the end.
-fn byte(s: &[u8], at: usize) -> u8
+pub fn byte(s: &[u8], at: usize) -> u8
     ensures { λ b. ⌜ b ≡ getD (now (s .entry)) at 0 ⌝ }
 {
     if at < s.len() { s[at] } else { 0 }

@@ -19,7 +19,7 @@ use source::Stimulus;
 use source::Timer;
 
 mod entering;
-mod packets;
+pub mod packets;
 mod steps;
 
 // A struct around the state: a field of this type can be stored to.

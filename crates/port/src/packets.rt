@@ -26,7 +26,7 @@ fn behind_two(o: &[u8]) -> &[u8]
 }
 
 // The first object of some object bytes, least byte first.
-pub(crate) fn first_object(o: &[u8]) -> u32
+pub fn first_object(o: &[u8]) -> u32
     ensures { λ r. ⌜ r ≡ firstObject (now (o .entry)) ⌝ }
 {
     let low = message::word(o) as u32;
@@ -34,7 +34,7 @@ pub(crate) fn first_object(o: &[u8]) -> u32
     low + high * 65536
 }
 
-fn meaning_in(objects: u8, f: Fields) -> Meaning
+pub fn meaning_in(objects: u8, f: Fields) -> Meaning
     ensures { λ m. ⌜ m ≡ meaningIn objects f ⌝ }
 {
     let k = meaning::kind_of(f.extended, objects);
@@ -61,7 +61,7 @@ fn replied(message_type: u8) -> Heard
 }
 
 // A packet as far as the states tell packets apart.
-fn heard_as(m: Meaning, message_type: u8, fit: Fit) -> Heard
+pub fn heard_as(m: Meaning, message_type: u8, fit: Fit) -> Heard
     ensures { λ h. ⌜ h ≡ heardAs m «message_type» fit ⌝ }
 {
     match m {
@@ -75,7 +75,7 @@ fn heard_as(m: Meaning, message_type: u8, fit: Fit) -> Heard
     }
 }
 
-fn asked_by(fit: Fit) -> Asked
+pub fn asked_by(fit: Fit) -> Asked
     ensures { λ a. ⌜ a ≡ askedBy fit ⌝ }
 {
     match fit {
@@ -84,7 +84,7 @@ fn asked_by(fit: Fit) -> Asked
     }
 }
 
-fn is_soft_reset(m: Meaning) -> bool
+pub fn is_soft_reset(m: Meaning) -> bool
     ensures { λ r. ⌜ r ≡ isSoftReset m ⌝ }
 {
     match m {
@@ -98,7 +98,7 @@ fn is_soft_reset(m: Meaning) -> bool
     }
 }
 
-fn crc_for(f: Fields) -> GoodCrc
+pub fn crc_for(f: Fields) -> GoodCrc
     ensures { λ r. ⌜ r ≡ crcFor f ⌝ }
 {
     let bytes = sending::good_crc(f);

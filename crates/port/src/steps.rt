@@ -96,7 +96,7 @@ impl Port {
         Port::new(newest)
     }
 
-    fn facts(self) -> Facts
+    pub fn facts(self) -> Facts
         ensures { λ r. ⌜ r ≡ factsOf self ⌝ }
     {
         let c = self.channel;
@@ -114,7 +114,7 @@ impl Port {
     }
 
     // The timer that runs.
-    pub(crate) fn runs(self) -> Timer
+    pub fn runs(self) -> Timer
         ensures { λ r. ⌜ r ≡ runningIn self ⌝ }
     {
         let c = self.channel;
@@ -155,7 +155,7 @@ impl Port {
     }
 
     // A port that was in a state goes where the rules lead.
-    pub(crate) fn turn(
+    pub fn turn(
         self,
         before: State,
         crc: GoodCrc,

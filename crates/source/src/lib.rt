@@ -113,7 +113,7 @@ pub enum Way {
 }
 
 // A number for each state, to tell states apart by.
-fn code_of(s: State) -> u8
+pub fn code_of(s: State) -> u8
     ensures { λ r. ⌜ r ≡ codeOf s ⌝ }
 {
     match s {

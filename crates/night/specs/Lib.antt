@@ -1,0 +1,4 @@
+pub mod Fields
+pub mod Events
+pub mod SetUps
+pub mod Layout

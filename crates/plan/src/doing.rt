@@ -1,0 +1,160 @@
+// What is decided is done.
+ghost use mathlib.Core.Path.{_≡_};
+ghost use Rattle.port.specs.Memory.{refusedBy};
+ghost use Rattle.port.specs.Parts.{channel-is};
+ghost use Rattle.port.specs.Packets.{hearing};
+ghost use Rattle.plan.specs.Plans.{after, judging, transmits, resends, performed, donePlan};
+use crate::Plan;
+use crate::Prior;
+use crate::meeting::NO_CRC;
+use channel::Channel;
+use ground::Refusal;
+use ground::Verdict;
+use offers::Asked;
+use outgoing::Packet;
+use port::Actions;
+use port::Answer;
+use port::Port;
+use port::Supply;
+use power::Change;
+use slot::Slot;
+use source::Timer;
+
+const NO_PACKET: Packet = Packet {
+    bytes: [0u8; 30],
+    length: 0,
+};
+
+fn with_channel(p: Port, c: Channel) -> Port
+    ensures { λ r. ⌜ r ≡ channel-is c p ⌝ }
+{
+    let mut q = p;
+    q.channel = c;
+    q
+}
+
+fn hearing(p: Port, id: u8, soft: bool) -> Port
+    ensures { λ r. ⌜ r ≡ hearing p id soft ⌝ }
+{
+    let c = p.channel;
+    let channel = c.heard(id, soft);
+    let mut q = p;
+    q.channel = channel;
+    q.connected = true;
+    q
+}
+
+// The port as the protocol rules leave it.
+fn after(x: Prior, p: Port) -> Port
+    ensures { λ r. ⌜ r ≡ after x p ⌝ }
+{
+    let c = p.channel;
+    let newest = p.newest;
+    match x {
+        Prior::Nothing => p,
+        Prior::Cleared => Port::new(newest),
+        Prior::Ended => with_channel(p, c.ended()),
+        Prior::Again => with_channel(p, c.again()),
+        Prior::Heard(id, soft) => hearing(p, id, soft),
+    }
+}
+
+// The port with the Request that is judged.
+fn judging(asks: bool, a: Asked, p: Port) -> Port
+    ensures { λ r. ⌜ r ≡ judging asks a p ⌝ }
+{
+    if asks {
+        let w = p.power;
+        let power = w.judges(a);
+        let mut q = p;
+        q.power = power;
+        return q;
+    }
+    p
+}
+
+fn transmits(m: Packet, a: Answer) -> Answer
+    ensures { λ r. ⌜ r ≡ transmits m a ⌝ }
+{
+    let verdict = a.verdict;
+    let port = a.port;
+    let held = a.held;
+    let done = a.actions;
+    let crc = done.good_crc;
+    let stop = done.stop;
+    let supply = done.supply;
+    let start = done.start;
+    Answer {
+        verdict: verdict,
+        port: port,
+        actions: Actions {
+            good_crc: crc,
+            stop: stop,
+            transmit: m,
+            hard_reset: done.hard_reset,
+            supply: supply,
+            start: start,
+        },
+        held: held,
+    }
+}
+
+// Where the pending message goes out again, it does so here.
+fn resends(x: Prior, m: Packet, a: Answer) -> Answer
+    ensures { λ r. ⌜ r ≡ resends x m a ⌝ }
+{
+    match x {
+        Prior::Nothing => a,
+        Prior::Cleared => a,
+        Prior::Ended => a,
+        Prior::Again => transmits(m, a),
+        Prior::Heard(_, _) => a,
+    }
+}
+
+fn performed(p: Port, x: Plan) -> Answer
+    ensures { λ r. ⌜ r ≡ performed p x ⌝ }
+{
+    let phase = p.phase;
+    let s = phase.state;
+    let prior = x.prior;
+    let crc = x.crc;
+    let runs = x.runs;
+    let change = x.change;
+    let way = x.way;
+    let asked = x.asked;
+    let pending = p.channel.pending.packet;
+    let q = judging(x.asks, asked, after(prior, p));
+    resends(prior, pending, q.turn(s, crc, runs, change, way, asked))
+}
+
+fn refused(r: Refusal, p: Port) -> Answer
+    ensures { λ a. ⌜ a ≡ refusedBy r p ⌝ }
+{
+    let crc = NO_CRC;
+    let none = NO_PACKET;
+    Answer {
+        verdict: Verdict::Refused(r),
+        port: p,
+        actions: Actions {
+            good_crc: crc,
+            stop: Timer::NoTimer,
+            transmit: none,
+            hard_reset: false,
+            supply: Supply::Unchanged,
+            start: Timer::NoTimer,
+        },
+        held: Change::Nothing,
+    }
+}
+
+// A refusal leaves the port that the event came to as it was.
+pub(crate) fn by_verdict(t: Slot, received: Port, x: Plan) -> Answer
+    ensures { λ r. ⌜ r ≡ donePlan (t .port) received x ⌝ }
+{
+    let verdict = x.verdict;
+    match verdict {
+        Verdict::Fine => performed(received, x),
+        Verdict::Refused(r) => refused(r, t.port),
+    }
+}

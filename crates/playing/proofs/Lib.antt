@@ -1,0 +1,3 @@
+pub mod Meets
+pub mod Sums
+pub mod Kept

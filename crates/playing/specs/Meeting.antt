@@ -1,0 +1,36 @@
+-- What the loop goes by: a field as `plan` takes it, and the size of loads.
+use mathlib.Core.List.{List}
+use Prim.Native.Nat.{ℕ, _<_}
+use Rattle.port.specs.declared.Port.{Port}
+use Rattle.port.specs.declared.Event.{Event}
+use Rattle.port.specs.Steps.{replaced}
+use Rattle.slot.specs.declared.Slot.{Slot}
+use Rattle.slot.specs.Load.{loadOf}
+use Rattle.rack.specs.declared.Rack.{Rack}
+use Rattle.rack.specs.Ports.{at, portsIn}
+use Rattle.night.specs.declared.Found.{Found}
+use Rattle.night.specs.Events.{behindOf, offerOf}
+use Rattle.plan.specs.declared.Met.{Met}
+use Rattle.plan.specs.Plans.{metEvent, metPacket, metOffer}
+
+abbrev pub metIn : Slot → Found → List ℕ → Met
+metIn t Found.Cut l = metEvent (t .port .channel) Event.Attach
+metIn t Found.UnknownTag l = metEvent (t .port .channel) Event.Attach
+metIn t Found.WrongLength l = metEvent (t .port .channel) Event.Attach
+metIn t Found.SetUp l = metEvent (t .port .channel) Event.Attach
+metIn t (Found.Event number e) l = metEvent (t .port .channel) e
+metIn t (Found.Packet number) l = metPacket (t .port) (behindOf l)
+metIn t (Found.NewOffer number) l = metOffer (t .limit) (offerOf l)
+
+abbrev pub receivedIn : Port → Found → List ℕ → Port
+receivedIn p Found.Cut l = p
+receivedIn p Found.UnknownTag l = p
+receivedIn p Found.WrongLength l = p
+receivedIn p Found.SetUp l = p
+receivedIn p (Found.Event number e) l = p
+receivedIn p (Found.Packet number) l = p
+receivedIn p (Found.NewOffer number) l = replaced p (offerOf l)
+
+-- no port takes more than a number of four bytes can say
+abbrev pub Small : Rack → Type 0
+Small r = (k : ℕ) → k < portsIn r → loadOf (at r k) < 4294967296
