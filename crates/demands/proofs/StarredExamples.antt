@@ -11,8 +11,8 @@ use Rattle.outgoing.specs.Packets.{controlOf, dataOf}
 use Rattle.channel.specs.Channel.{pendingId, isRepeat, ended, heard, sends}
 use Rattle.channel.specs.Outcomes.{onGoodCrc}
 use Rattle.power.specs.Power.{changed, standingOf}
-use Rattle.source.specs.Leads.{leads}
-use Rattle.source.specs.Packets.{onPacket}
+use Rattle.stimuli.specs.Leads.{leads}
+use Rattle.hearing.specs.Packets.{onPacket}
 use Rattle.source.specs.Changes.{changeOf}
 use Rattle.port.specs.Entering.{enter}
 use Rattle.port.specs.Steps.{turn, happens, acknowledged, byOutcome, nothingDone, eventOf}

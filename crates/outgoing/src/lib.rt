@@ -1,6 +1,8 @@
 // A whole message of ours as it goes out, byte by byte, in a place of fixed size that a port can keep. It
 // promises every byte, and rests on the headers that we send.
 ghost use mathlib.Core.Path.{_≡_};
+ghost use Prim.Native.Nat.{_+_, _/_, _%_, _≤_};
+ghost use lib.ListN.{set};
 ghost use Rattle.outgoing.specs.Packets.{controlOf, dataOf};
 use sending::header_bytes;
 use sending::our_fields;
@@ -28,44 +30,36 @@ pub fn control(message_type: u8, message_id: u8) -> Packet
     }
 }
 
+// An object laid into a packet from a place on, least byte first.
+fn with_object(packet: [u8; 30], at: usize, object: u32) -> [u8; 30]
+    requires { ⌜ at + 4 ≤ 30 ⌝ }
+    ensures { λ b. ⌜ b ≡ set (set (set (set packet at (object % 256)) (at + 1) (object / 256 % 256)) (at + 2) (object / 65536 % 256)) (at + 3) (object / 16777216 % 256) ⌝ }
+{
+    let mut bytes = packet;
+    bytes[at] = (object % 256) as u8;
+    bytes[at + 1] = (object / 256 % 256) as u8;
+    bytes[at + 2] = (object / 65536 % 256) as u8;
+    bytes[at + 3] = (object / 16777216 % 256) as u8;
+    bytes
+}
+
 // A data message of ours with the first so many of seven objects.
 pub fn with_objects(message_type: u8, message_id: u8, objects: Objects, count: u8) -> Packet
     ensures { λ m. ⌜ m ≡ dataOf «message_type» «message_id» objects count ⌝ }
 {
     let h = header_bytes(our_fields(message_type, message_id), count);
+    let mut begun = [0u8; 30];
+    begun[0] = h[0];
+    begun[1] = h[1];
+    let one = with_object(begun, 2, objects[0]);
+    let two = with_object(one, 6, objects[1]);
+    let three = with_object(two, 10, objects[2]);
+    let four = with_object(three, 14, objects[3]);
+    let five = with_object(four, 18, objects[4]);
+    let six = with_object(five, 22, objects[5]);
+    let seven = with_object(six, 26, objects[6]);
     Packet {
-        bytes: [
-            h[0],
-            h[1],
-            (objects[0] % 256) as u8,
-            (objects[0] / 256 % 256) as u8,
-            (objects[0] / 65536 % 256) as u8,
-            (objects[0] / 16777216 % 256) as u8,
-            (objects[1] % 256) as u8,
-            (objects[1] / 256 % 256) as u8,
-            (objects[1] / 65536 % 256) as u8,
-            (objects[1] / 16777216 % 256) as u8,
-            (objects[2] % 256) as u8,
-            (objects[2] / 256 % 256) as u8,
-            (objects[2] / 65536 % 256) as u8,
-            (objects[2] / 16777216 % 256) as u8,
-            (objects[3] % 256) as u8,
-            (objects[3] / 256 % 256) as u8,
-            (objects[3] / 65536 % 256) as u8,
-            (objects[3] / 16777216 % 256) as u8,
-            (objects[4] % 256) as u8,
-            (objects[4] / 256 % 256) as u8,
-            (objects[4] / 65536 % 256) as u8,
-            (objects[4] / 16777216 % 256) as u8,
-            (objects[5] % 256) as u8,
-            (objects[5] / 256 % 256) as u8,
-            (objects[5] / 65536 % 256) as u8,
-            (objects[5] / 16777216 % 256) as u8,
-            (objects[6] % 256) as u8,
-            (objects[6] / 256 % 256) as u8,
-            (objects[6] / 65536 % 256) as u8,
-            (objects[6] / 16777216 % 256) as u8,
-        ],
+        bytes: seven,
         length: 2 + 4 * (count % 8),
     }
 }

@@ -3,6 +3,7 @@ ghost use mathlib.Core.Path.{_≡_};
 ghost use lib.ListN.{length};
 use crate::line::Form;
 use crate::line::Line;
+use crate::words::word;
 use ground::Refusal;
 use meaning::Kind;
 use meaning::Meaning;
@@ -10,55 +11,53 @@ use message::Fields;
 use reading::Reading;
 use writing::Writing;
 
-// The words of a refusal in docs/PACKETS.md.
+// The refusals' words in docs/PACKETS.md, by their numbers; none has the number 0.
 fn put_refusal(out: &mut [u8], at: usize, r: Refusal) -> usize {
     let begun = text::put(out, at, b"refused ");
-    let numbered = text::put_number(out, begun, ground::number(r));
+    let number = ground::number(r);
+    let numbered = text::put_number(out, begun, number);
     let end = text::put(out, numbered, b", ");
-    match r {
-        Refusal::TooShort => text::put(out, end, b"packet under 2 bytes"),
-        Refusal::TooLong => text::put(out, end, b"packet over 30 bytes"),
-        Refusal::WrongLength => text::put(
-            out,
-            end,
-            b"length is not 2 + 4 x objects, or extended under 4 bytes",
-        ),
-        Refusal::NotChunked => text::put(
-            out,
-            end,
-            b"extended with Chunked clear, or written without object",
-        ),
-        Refusal::NoRoom => text::put(
-            out,
-            end,
-            b"too little room from the place on, or place past the end",
-        ),
-        Refusal::OutOfRange => text::put(out, end, b"a field or the object bytes out of range"),
-        Refusal::BadOffer => text::put(out, end, b"bad offer"),
-        Refusal::NotAwaited => text::put(out, end, b"the event is not awaited in this state"),
-        Refusal::NotInRack => text::put(out, end, b"port number not in the rack"),
-        Refusal::BadSetUp => text::put(out, end, b"bad set-up"),
+    let words = b"\
+        |packet under 2 bytes\
+        |packet over 30 bytes\
+        |length is not 2 + 4 x objects, or extended under 4 bytes\
+        |extended with Chunked clear, or written without object\
+        |too little room from the place on, or place past the end\
+        |a field or the object bytes out of range\
+        |bad offer\
+        |the event is not awaited in this state\
+        |port number not in the rack\
+        |bad set-up";
+    text::put(out, end, word(words, number))
+}
+
+fn kind_number(k: Kind) -> u8 {
+    match k {
+        Kind::Control => 0,
+        Kind::Data => 1,
+        Kind::Extended => 2,
     }
 }
 
 fn put_kind(out: &mut [u8], at: usize, k: Kind) -> usize {
-    match k {
-        Kind::Control => text::put(out, at, b"control"),
-        Kind::Data => text::put(out, at, b"data"),
-        Kind::Extended => text::put(out, at, b"extended"),
+    text::put(out, at, word(b"control|data|extended", kind_number(k)))
+}
+
+fn meaning_number(m: Meaning) -> u8 {
+    match m {
+        Meaning::Unsupported => 0,
+        Meaning::GoodCrc => 1,
+        Meaning::Reply => 2,
+        Meaning::GetSourceCap => 3,
+        Meaning::SoftReset => 4,
+        Meaning::Quiet => 5,
+        Meaning::Request => 6,
     }
 }
 
 fn put_meaning(out: &mut [u8], at: usize, m: Meaning) -> usize {
-    match m {
-        Meaning::Unsupported => text::put(out, at, b"unsupported"),
-        Meaning::GoodCrc => text::put(out, at, b"GoodCRC"),
-        Meaning::Reply => text::put(out, at, b"reply"),
-        Meaning::GetSourceCap => text::put(out, at, b"Get_Source_Cap"),
-        Meaning::SoftReset => text::put(out, at, b"Soft_Reset"),
-        Meaning::Quiet => text::put(out, at, b"quiet"),
-        Meaning::Request => text::put(out, at, b"Request"),
-    }
+    let words = b"unsupported|GoodCRC|reply|Get_Source_Cap|Soft_Reset|quiet|Request";
+    text::put(out, at, word(words, meaning_number(m)))
 }
 
 // A name and its number, behind a semicolon.

@@ -2,6 +2,7 @@
 // writing it back gives. docs/PACKETS.md has the lines.
 mod answer;
 mod line;
+mod words;
 
 use libc::STDIN_FILENO;
 use libc::STDOUT_FILENO;

@@ -1,7 +1,7 @@
 // Where the rules lead, and what the power rule answers.
 ghost use mathlib.Core.Path.{_≡_};
-ghost use Rattle.source.specs.Leads.{leads};
-ghost use Rattle.source.specs.Packets.{onPacket};
+ghost use Rattle.stimuli.specs.Leads.{leads};
+ghost use Rattle.hearing.specs.Packets.{onPacket};
 ghost use Rattle.port.specs.Memory.{stateOf, factsOf};
 ghost use Rattle.plan.specs.Plans.{refuses, goes, isJudge, stillRuns, planLed, planHeard, planOf, answeredBy, settledPlan};
 use crate::Cue;
@@ -94,7 +94,7 @@ fn led(e: Stimulus, expired: bool, p: Port, m: Met) -> Plan
 {
     let phase = p.phase;
     let s = phase.state;
-    let lead = source::leads(s, e, p.facts());
+    let lead = stimuli::leads(s, e, p.facts());
     match lead {
         Lead::Refuse => refuses(Refusal::NotAwaited),
         Lead::To(way) => {
@@ -109,7 +109,7 @@ fn heard(h: Heard, p: Port, m: Met) -> Plan
 {
     let phase = p.phase;
     let s = phase.state;
-    let lead = source::packet_leads(s, h);
+    let lead = hearing::packet_leads(s, h);
     match lead {
         Lead::Refuse => refuses(Refusal::NotAwaited),
         Lead::To(way) => {

@@ -26,7 +26,7 @@ use Rattle.source.specs.declared.Heard.the-variants.{FittingRequest, OtherReque
 use Rattle.source.specs.declared.Lead.{Lead}
 use Rattle.source.specs.declared.Lead.the-variants.{Refuse, To}
 use Rattle.source.specs.States.{listens}
-use Rattle.source.specs.Packets.{onPacket}
+use Rattle.hearing.specs.Packets.{onPacket}
 use Rattle.port.specs.declared.GoodCrc.{GoodCrc}
 use Rattle.port.specs.declared.Port.{Port}
 use Rattle.port.specs.declared.Answer.{Answer}

@@ -20,7 +20,7 @@ use Rattle.source.specs.declared.Lead.{Lead}
 use Rattle.source.specs.declared.Lead.the-variants.{Refuse, To}
 use Rattle.source.specs.declared.Way.{Way}
 use Rattle.source.specs.States.{stopped}
-use Rattle.source.specs.Leads.{leads}
+use Rattle.stimuli.specs.Leads.{leads}
 use Rattle.source.specs.Changes.{changeOf}
 use Rattle.port.specs.declared.Supply.the-variants.{Unchanged}
 use Rattle.port.specs.declared.GoodCrc.{GoodCrc}

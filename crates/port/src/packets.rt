@@ -126,7 +126,7 @@ impl Port {
     {
         let phase = self.phase;
         let s = phase.state;
-        let lead = source::packet_leads(s, heard_as(m, f.message_type, fit));
+        let lead = hearing::packet_leads(s, heard_as(m, f.message_type, fit));
         match lead {
             Lead::Refuse => self.refused(Refusal::NotAwaited),
             Lead::To(way) => {

@@ -178,7 +178,7 @@ impl Port {
     {
         let phase = self.phase;
         let s = phase.state;
-        let lead = source::leads(s, e, self.facts());
+        let lead = stimuli::leads(s, e, self.facts());
         match lead {
             Lead::Refuse => self.refused(Refusal::NotAwaited),
             Lead::To(way) => {

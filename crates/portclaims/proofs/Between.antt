@@ -23,8 +23,8 @@ use Rattle.source.specs.declared.Lead.{Lead}
 use Rattle.source.specs.declared.Lead.the-variants.{To}
 use Rattle.source.specs.declared.Way.{Way}
 use Rattle.source.specs.States.{same}
-use Rattle.source.specs.Leads.{leads}
-use Rattle.source.specs.Packets.{onPacket}
+use Rattle.stimuli.specs.Leads.{leads}
+use Rattle.hearing.specs.Packets.{onPacket}
 use Rattle.source.specs.Changes.{changeOf}
 use Rattle.port.specs.declared.Port.{Port}
 use Rattle.port.specs.declared.Answer.{Answer}

@@ -18,8 +18,8 @@ use Rattle.source.specs.declared.State.{State}
 use Rattle.source.specs.declared.Timer.{Timer}
 use Rattle.source.specs.declared.Timer.the-variants.{NoTimer, SenderResponse, SourceCapability, PsHardReset}
 use Rattle.source.specs.States.{same, listens, running}
-use Rattle.source.specs.Leads.{leads}
-use Rattle.source.specs.Packets.{onPacket}
+use Rattle.stimuli.specs.Leads.{leads}
+use Rattle.hearing.specs.Packets.{onPacket}
 use Rattle.source.specs.Changes.{changeOf}
 use Rattle.source.proofs.Finite.{state}
 use Rattle.port.specs.declared.Port.{Port}

@@ -41,16 +41,18 @@ use Rattle.power.proofs.Power.changed.Kinds as power-changed-k
 use Rattle.power.proofs.Power.changed.Reads as power-changed-c
 use Rattle.power.proofs.Power.standing.Kinds as power-standing-k
 use Rattle.power.proofs.Power.standing.Reads as power-standing-c
+use Rattle.source.proofs.is.Kinds as source-is-k
+use Rattle.source.proofs.is.Reads as source-is-c
 use Rattle.source.proofs.listens.Kinds as source-listens-k
 use Rattle.source.proofs.listens.Reads as source-listens-c
 use Rattle.source.proofs.running.Kinds as source-running-k
 use Rattle.source.proofs.running.Reads as source-running-c
 use Rattle.source.proofs.stopped.Kinds as source-stopped-k
 use Rattle.source.proofs.stopped.Reads as source-stopped-c
-use Rattle.source.proofs.leads.Kinds as source-leads-k
-use Rattle.source.proofs.leads.Reads as source-leads-c
-use Rattle.source.proofs.packet_leads.Kinds as source-packet-leads-k
-use Rattle.source.proofs.packet_leads.Reads as source-packet-leads-c
+use Rattle.stimuli.proofs.leads.Kinds as stimuli-leads-k
+use Rattle.stimuli.proofs.leads.Reads as stimuli-leads-c
+use Rattle.hearing.proofs.packet_leads.Kinds as hearing-packet-leads-k
+use Rattle.hearing.proofs.packet_leads.Reads as hearing-packet-leads-c
 use Rattle.source.proofs.change.Kinds as source-change-k
 use Rattle.source.proofs.change.Reads as source-change-c
 use Rattle.port.proofs.Port.new.Kinds as port-new-k
@@ -122,6 +124,9 @@ power-changed κs a x y s t = same
 pub power-standing : Settles 0 power-standing-k.ps power-standing-k.r power-standing-c.Post (λ κs x s. x)
 power-standing κs a x y s t = same
 
+pub source-is : Settles 0 source-is-k.ps source-is-k.r source-is-c.Post (λ κs x s. x)
+source-is κs a x y s t = same
+
 pub source-listens : Settles 0 source-listens-k.ps source-listens-k.r source-listens-c.Post (λ κs x s. x)
 source-listens κs a x y s t = same
 
@@ -131,11 +136,11 @@ source-running κs a x y s t = same
 pub source-stopped : Settles 0 source-stopped-k.ps source-stopped-k.r source-stopped-c.Post (λ κs x s. x)
 source-stopped κs a x y s t = same
 
-pub source-leads : Settles 0 source-leads-k.ps source-leads-k.r source-leads-c.Post (λ κs x s. x)
-source-leads κs a x y s t = same
+pub stimuli-leads : Settles 0 stimuli-leads-k.ps stimuli-leads-k.r stimuli-leads-c.Post (λ κs x s. x)
+stimuli-leads κs a x y s t = same
 
-pub source-packet-leads : Settles 0 source-packet-leads-k.ps source-packet-leads-k.r source-packet-leads-c.Post (λ κs x s. x)
-source-packet-leads κs a x y s t = same
+pub hearing-packet-leads : Settles 0 hearing-packet-leads-k.ps hearing-packet-leads-k.r hearing-packet-leads-c.Post (λ κs x s. x)
+hearing-packet-leads κs a x y s t = same
 
 pub source-change : Settles 0 source-change-k.ps source-change-k.r source-change-c.Post (λ κs x s. x)
 source-change κs a x y s t = same

@@ -27,8 +27,8 @@ use Rattle.power.specs.declared.Standing.{Standing}
 use Rattle.power.specs.Power.{changed, standingOf}
 use Rattle.source.specs.declared.State.{State}
 use Rattle.source.specs.States.{listens}
-use Rattle.source.specs.Leads.{leads}
-use Rattle.source.specs.Packets.{onPacket}
+use Rattle.stimuli.specs.Leads.{leads}
+use Rattle.hearing.specs.Packets.{onPacket}
 use Rattle.source.specs.Changes.{changeOf}
 use Rattle.port.specs.declared.Port.{Port}
 use Rattle.port.specs.declared.Event.{Event}

@@ -26,7 +26,7 @@ use Rattle.source.specs.declared.Lead.{Lead}
 use Rattle.source.specs.declared.Lead.the-variants.{Refuse, To}
 use Rattle.source.specs.declared.Way.{Way}
 use Rattle.source.specs.States.{listens}
-use Rattle.source.specs.Packets.{sameHeard, onPacket}
+use Rattle.hearing.specs.Packets.{sameHeard, onPacket}
 use Rattle.source.proofs.Finite.{at-packets}
 use Rattle.port.specs.declared.Port.{Port}
 use Rattle.port.specs.declared.Answer.{Answer}

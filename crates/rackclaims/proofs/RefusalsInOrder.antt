@@ -24,8 +24,8 @@ use Rattle.source.specs.declared.Lead.{Lead}
 use Rattle.source.specs.declared.Lead.the-variants.{Refuse, To}
 use Rattle.source.specs.declared.State.{State}
 use Rattle.source.specs.States.{same, listens}
-use Rattle.source.specs.Leads.{leads}
-use Rattle.source.specs.Packets.{onPacket}
+use Rattle.stimuli.specs.Leads.{leads}
+use Rattle.hearing.specs.Packets.{onPacket}
 use Rattle.port.specs.declared.Event.{Event}
 use Rattle.port.specs.declared.Port.{Port}
 use Rattle.port.specs.declared.Answer.{Answer}

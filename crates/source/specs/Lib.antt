@@ -1,4 +1,2 @@
 pub mod States
-pub mod Leads
-pub mod Packets
 pub mod Changes

@@ -1,17 +1,13 @@
-// The Source states: where each state leads at each thing that can happen, the timer that runs in it,
-// and what happens to held power. It promises the paper's state list, for every state, and holds no
-// memory: the port gives the facts that a state asks for.
+// The Source states: which of them listen, the timer that runs in each, and what happens to held power;
+// and the names of all that leads from one to another. It promises the paper's state list, for every
+// state, and holds no memory: the port gives the facts that a state asks for. Where the states lead,
+// `stimuli` and `hearing` say.
 ghost use mathlib.Core.Path.{_≡_};
 ghost use Rattle.source.specs.declared.State.{State};
 ghost use Rattle.source.specs.States.{codeOf, same, listens, awaitsReply, running, stopped};
-ghost use Rattle.source.specs.Leads.{leads};
-ghost use Rattle.source.specs.Packets.{onPacket};
 ghost use Rattle.source.specs.Changes.{changeOf, whenAcknowledged, whenSupplyReady};
 use power::Change;
 use power::Standing;
-
-mod packets;
-mod stimuli;
 
 // The sixteen states, by the paper's names.
 pub enum State {
@@ -137,7 +133,7 @@ pub fn code_of(s: State) -> u8
 }
 
 // Whether a state is this one.
-pub(crate) fn is(s: State, t: State) -> bool
+pub fn is(s: State, t: State) -> bool
     ensures { λ r. ⌜ r ≡ same s t ⌝ }
 {
     code_of(s) == code_of(t)
@@ -202,51 +198,6 @@ pub fn stopped(before: State, after: State, runs: Timer) -> Timer
         Timer::NoTimer
     } else {
         runs
-    }
-}
-
-// Where a stimulus leads a state.
-pub fn leads(s: State, e: Stimulus, f: Facts) -> Lead
-    ensures { λ r. ⌜ r ≡ leads s e f ⌝ }
-{
-    let contract = f.standing;
-    match e {
-        Stimulus::Attach => stimuli::on_attach(s),
-        Stimulus::Detach => stimuli::on_detach(s),
-        Stimulus::HardReset => stimuli::on_hard_reset(s),
-        Stimulus::Acknowledged => stimuli::on_acknowledged(s, contract, f.gone_out),
-        Stimulus::Failed => stimuli::on_failed(s, f.connected),
-        Stimulus::SenderResponse => stimuli::on_sender_response(s, f.pending),
-        Stimulus::SourceCapability => stimuli::on_source_capability(s, f.fifty),
-        Stimulus::PsHardReset => stimuli::on_ps_hard_reset(s),
-        Stimulus::SupplyReady => stimuli::on_supply_ready(s),
-        Stimulus::NewOffer => stimuli::on_new_offer(s),
-        Stimulus::Yes => stimuli::on_answer(s, Lead::To(Way::Accepting)),
-        Stimulus::No => stimuli::on_answer(s, Lead::To(Way::Refusing)),
-    }
-}
-
-// Where a new packet leads a state.
-pub fn packet_leads(s: State, h: Heard) -> Lead
-    ensures { λ r. ⌜ r ≡ onPacket s h ⌝ }
-{
-    match s {
-        State::Detached => Lead::Refuse,
-        State::Offer => Lead::To(packets::awaiting(h)),
-        State::Discovery => Lead::To(packets::awaiting(h)),
-        State::Disabled => Lead::Refuse,
-        State::Judge => Lead::To(packets::answered(h)),
-        State::Accepting => Lead::To(Way::Hard),
-        State::Moving => Lead::To(Way::Hard),
-        State::Telling => Lead::To(Way::Hard),
-        State::Ready => Lead::To(packets::at_rest(h)),
-        State::Declining => Lead::To(packets::answered(h)),
-        State::Refusing => Lead::To(packets::answered(h)),
-        State::Waiting => Lead::To(packets::waited(h)),
-        State::Soft => Lead::To(packets::resetting(h)),
-        State::Answering => Lead::To(packets::answering(h)),
-        State::Hard => Lead::Refuse,
-        State::Default => Lead::Refuse,
     }
 }
 

@@ -1,6 +1,7 @@
 // The answer to a line, as text.
 use crate::memory::put_memory;
 use crate::memory::put_packet;
+use crate::words::word;
 use ground::Refusal;
 use ground::Verdict;
 use outgoing::Packet;
@@ -14,32 +15,25 @@ use rack::Rack;
 use rack::RackAnswer;
 use source::Timer;
 
-// The words of a refusal in docs/PACKETS.md and docs/STEPS.md.
+// The refusals' words in docs/PACKETS.md and docs/STEPS.md, by their numbers. None has the number 0, and
+// writing alone refuses by 5 and 6.
 fn put_refusal(out: &mut [u8], at: usize, r: Refusal) -> usize {
     let begun = text::put(out, at, b"refused ");
-    let numbered = text::put_number(out, begun, ground::number(r));
+    let number = ground::number(r);
+    let numbered = text::put_number(out, begun, number);
     let end = text::put(out, numbered, b", ");
-    match r {
-        Refusal::TooShort => text::put(out, end, b"packet under 2 bytes"),
-        Refusal::TooLong => text::put(out, end, b"packet over 30 bytes"),
-        Refusal::WrongLength => text::put(
-            out,
-            end,
-            b"length is not 2 + 4 x objects, or extended under 4 bytes",
-        ),
-        Refusal::NotChunked => text::put(
-            out,
-            end,
-            b"extended with Chunked clear, or written without object",
-        ),
-        // Writing alone refuses so, and no port does.
-        Refusal::NoRoom => end,
-        Refusal::OutOfRange => end,
-        Refusal::BadOffer => text::put(out, end, b"bad offer"),
-        Refusal::NotAwaited => text::put(out, end, b"the event is not awaited in this state"),
-        Refusal::NotInRack => text::put(out, end, b"port number not in the rack"),
-        Refusal::BadSetUp => text::put(out, end, b"bad set-up"),
-    }
+    let words = b"\
+        |packet under 2 bytes\
+        |packet over 30 bytes\
+        |length is not 2 + 4 x objects, or extended under 4 bytes\
+        |extended with Chunked clear, or written without object\
+        |\
+        |\
+        |bad offer\
+        |the event is not awaited in this state\
+        |port number not in the rack\
+        |bad set-up";
+    text::put(out, end, word(words, number))
 }
 
 // An action's first words, behind a semicolon unless it is the first action.
@@ -60,22 +54,23 @@ fn put_crc(out: &mut [u8], first: usize, at: usize, crc: GoodCrc) -> usize {
     at
 }
 
-fn put_timer(out: &mut [u8], first: usize, at: usize, verb: &[u8], t: Timer) -> usize {
+fn timer_number(t: Timer) -> u8 {
     match t {
-        Timer::NoTimer => at,
-        Timer::SenderResponse => {
-            let begun = put_action(out, first, at, verb);
-            text::put(out, begun, b"SenderResponse")
-        }
-        Timer::SourceCapability => {
-            let begun = put_action(out, first, at, verb);
-            text::put(out, begun, b"SourceCapability")
-        }
-        Timer::PsHardReset => {
-            let begun = put_action(out, first, at, verb);
-            text::put(out, begun, b"PSHardReset")
-        }
+        Timer::NoTimer => 0,
+        Timer::SenderResponse => 1,
+        Timer::SourceCapability => 2,
+        Timer::PsHardReset => 3,
     }
+}
+
+fn put_timer(out: &mut [u8], first: usize, at: usize, verb: &[u8], t: Timer) -> usize {
+    let number = timer_number(t);
+    if number == 0 {
+        return at;
+    }
+    let begun = put_action(out, first, at, verb);
+    let words = b"|SenderResponse|SourceCapability|PSHardReset";
+    text::put(out, begun, word(words, number))
 }
 
 fn put_transmit(out: &mut [u8], first: usize, at: usize, m: Packet) -> usize {
@@ -139,14 +134,19 @@ fn put_verdict(out: &mut [u8], v: Verdict, a: Actions) -> usize {
     }
 }
 
+fn change_number(c: Change) -> u8 {
+    match c {
+        Change::Nothing => 0,
+        Change::Accepted => 1,
+        Change::InForce => 2,
+        Change::GivenUp => 3,
+    }
+}
+
 fn put_change(out: &mut [u8], at: usize, c: Change) -> usize {
     let begun = text::put(out, at, b" | held: ");
-    match c {
-        Change::Nothing => text::put(out, begun, b"nothing"),
-        Change::Accepted => text::put(out, begun, b"accepted"),
-        Change::InForce => text::put(out, begun, b"in force"),
-        Change::GivenUp => text::put(out, begun, b"given up"),
-    }
+    let words = b"nothing|accepted|in force|given up";
+    text::put(out, begun, word(words, change_number(c)))
 }
 
 // What is said of an event: its actions or the refusal, and what happened to held power.

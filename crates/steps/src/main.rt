@@ -8,6 +8,7 @@ mod in_hand;
 mod line;
 mod memory;
 mod rest;
+mod words;
 
 use bench::Bench;
 use bench::Step;

@@ -1,4 +1,5 @@
 // A port's memory, as text.
+use crate::words::word;
 use channel::Channel;
 use channel::Stored;
 use offers::Asked;
@@ -38,25 +39,32 @@ fn put_yes(out: &mut [u8], at: usize, name: &[u8], yes: bool) -> usize {
     text::put(out, named, b"no")
 }
 
-fn put_state(out: &mut [u8], at: usize, s: State) -> usize {
+fn state_number(s: State) -> u8 {
     match s {
-        State::Detached => text::put(out, at, b"Detached"),
-        State::Offer => text::put(out, at, b"Offer"),
-        State::Discovery => text::put(out, at, b"Discovery"),
-        State::Disabled => text::put(out, at, b"Disabled"),
-        State::Judge => text::put(out, at, b"Judge"),
-        State::Accepting => text::put(out, at, b"Accepting"),
-        State::Moving => text::put(out, at, b"Moving"),
-        State::Telling => text::put(out, at, b"Telling"),
-        State::Ready => text::put(out, at, b"Ready"),
-        State::Declining => text::put(out, at, b"Declining"),
-        State::Refusing => text::put(out, at, b"Refusing"),
-        State::Waiting => text::put(out, at, b"Waiting"),
-        State::Soft => text::put(out, at, b"Soft"),
-        State::Answering => text::put(out, at, b"Answering"),
-        State::Hard => text::put(out, at, b"Hard"),
-        State::Default => text::put(out, at, b"Default"),
+        State::Detached => 0,
+        State::Offer => 1,
+        State::Discovery => 2,
+        State::Disabled => 3,
+        State::Judge => 4,
+        State::Accepting => 5,
+        State::Moving => 6,
+        State::Telling => 7,
+        State::Ready => 8,
+        State::Declining => 9,
+        State::Refusing => 10,
+        State::Waiting => 11,
+        State::Soft => 12,
+        State::Answering => 13,
+        State::Hard => 14,
+        State::Default => 15,
     }
+}
+
+fn put_state(out: &mut [u8], at: usize, s: State) -> usize {
+    let words = b"\
+        Detached|Offer|Discovery|Disabled|Judge|Accepting|Moving|Telling\
+        |Ready|Declining|Refusing|Waiting|Soft|Answering|Hard|Default";
+    text::put(out, at, word(words, state_number(s)))
 }
 
 fn put_stored(out: &mut [u8], at: usize, s: Stored) -> usize {

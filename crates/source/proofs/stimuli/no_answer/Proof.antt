@@ -1,9 +1,0 @@
-use Rattle.source.proofs.stimuli.no_answer.Statement.{statement}
-use Rattle.source.proofs.stimuli.no_answer.Tie as tie
-
-pub no-answer-spec : {M : Type 1} → statement M
-no-answer-spec =
-    tie.close
-    (tie.spec
-    (λ c. rw (c .if1 .taken))
-    (λ c. rw (c .if1 .left)))
