@@ -2,6 +2,7 @@
 use mathlib.Core.Path.{_≡_, refl, sym, _∙_}
 use mathlib.Core.Bool.{Bool, true, false, not, _&&_}
 use lib.Dec.{T}
+use Rattle.offers.specs.declared.Offer.{Offer}
 use Rattle.outgoing.specs.declared.Packet.{Packet}
 use Rattle.source.specs.declared.State.{State}
 use Rattle.source.specs.declared.Stimulus.{Stimulus}
@@ -96,12 +97,13 @@ unasked s t Way.HardHeard e k = none (not (same s State.Judge))
 unasked s t Way.Default e k = none (not (same s State.Judge))
 unasked s t Way.Detached e k = none (not (same s State.Judge))
 
-ruled-first : (x : Prior) (p : Port) → (not (same (stateOf p) State.Judge) && same (stateOf (after x p)) State.Judge) ≡ false
-ruled-first Prior.Nothing p = never (same (stateOf p) State.Judge)
-ruled-first Prior.Cleared p = none (not (same (stateOf p) State.Judge))
-ruled-first Prior.Ended p = never (same (stateOf p) State.Judge)
-ruled-first Prior.Again p = never (same (stateOf p) State.Judge)
-ruled-first (Prior.Heard id soft) p = never (same (stateOf p) State.Judge)
+ruled-first : (x : Prior) (o : Offer) (p : Port) → (not (same (stateOf p) State.Judge) && same (stateOf (after x o p)) State.Judge) ≡ false
+ruled-first Prior.Nothing o p = never (same (stateOf p) State.Judge)
+ruled-first Prior.Cleared o p = none (not (same (stateOf p) State.Judge))
+ruled-first Prior.Ended o p = never (same (stateOf p) State.Judge)
+ruled-first Prior.Again o p = never (same (stateOf p) State.Judge)
+ruled-first (Prior.Heard id soft) o p = never (same (stateOf p) State.Judge)
+ruled-first Prior.Replaced o p = never (same (stateOf p) State.Judge)
 
 same-port : (x : Prior) (m : Packet) (a : Answer) → resends x m a .port ≡ a .port
 same-port Prior.Nothing m a = refl
@@ -109,9 +111,10 @@ same-port Prior.Cleared m a = refl
 same-port Prior.Ended m a = refl
 same-port Prior.Again m a = refl
 same-port (Prior.Heard id soft) m a = refl
+same-port Prior.Replaced m a = refl
 
-pub not-asked : (p : Port) (x : Plan) → x .asks ≡ false → isJudge (x .way) ≡ false → hasAsked p (performed p x .port) ≡ false
+pub not-asked : (p : Port) (o : Offer) (x : Plan) → x .asks ≡ false → isJudge (x .way) ≡ false → hasAsked p (performed p o x .port) ≡ false
 unfolding performed
-not-asked p x e w =
-    rw (same-port (x .prior) (p .channel .pending .packet) _, e, turn-state (after (x .prior) p) (stateOf p) (x .crc) (x .runs) (x .change) (x .way) (x .asked))
-    (unasked (stateOf p) (stateOf (after (x .prior) p)) (x .way) w (ruled-first (x .prior) p))
+not-asked p o x e w =
+    rw (same-port (x .prior) (p .channel .pending .packet) _, e, turn-state (after (x .prior) o p) (stateOf p) (x .crc) (x .runs) (x .change) (x .way) (x .asked))
+    (unasked (stateOf p) (stateOf (after (x .prior) o p)) (x .way) w (ruled-first (x .prior) o p))

@@ -64,36 +64,36 @@ replying false = State.Refusing
 abbrev Silent : Prior → Type 0
 Silent prior = (m : Packet) (a : Answer) → resends prior m a ≡ a
 
-module _ (p : Port) where
+module _ (p : Port) (o : Offer) where
   performs : (prior : Prior) (crc : GoodCrc) (runs : Timer) (change : Change) (way : Way) (a : Asked) → Silent prior →
-      performed p (record { verdict = Fine; prior = prior; crc = crc; runs = runs; change = change; way = way; asks = false; asked = a }) ≡ turn (after prior p) (stateOf p) crc runs change way a
+      performed p o (record { verdict = Fine; prior = prior; crc = crc; runs = runs; change = change; way = way; asks = false; asked = a }) ≡ turn (after prior o p) (stateOf p) crc runs change way a
   unfolding performed
   performs prior crc runs change way a silent = silent _ _
 
-  led : (prior : Prior) (e : Stimulus) (expired : Bool) → Silent prior → donePlan p p (planOf p (plain (Cue.Meets e expired) prior)) ≡ happens p e (after prior p) (stillRuns expired (runningIn p))
+  led : (prior : Prior) (e : Stimulus) (expired : Bool) → Silent prior → donePlan p o (planOf p (plain (Cue.Meets e expired) prior)) ≡ happens p e (after prior o p) (stillRuns expired (runningIn p))
   unfolding planOf happens
   led prior e expired silent = by-lead (leads (stateOf p) e (factsOf p))
     where
-      by-lead : (l : Lead) → donePlan p p (planLed l e expired p (plain (Cue.Meets e expired) prior)) ≡ ledTo p e (after prior p) (stillRuns expired (runningIn p)) l
+      by-lead : (l : Lead) → donePlan p o (planLed l e expired p (plain (Cue.Meets e expired) prior)) ≡ ledTo p e (after prior o p) (stillRuns expired (runningIn p)) l
       by-lead Refuse = refl
       by-lead (To way) = performs prior noCrc (stillRuns expired (runningIn p)) (changeOf (stateOf p) e) way nothingAsked silent
 
-  sent-again : donePlan p p (planOf p (plain Cue.Done Prior.Again)) ≡ resent p
+  sent-again : donePlan p o (planOf p (plain Cue.Done Prior.Again)) ≡ resent p
   unfolding planOf performed turn enter resent
   sent-again = refl
 
-  by-outcome : (o : Outcome) (k : Cue) (none : Answer) → donePlan p p (planOf p (plain k Prior.Nothing)) ≡ none → donePlan p p (planOf p (metOutcome o k)) ≡ byOutcome o none p
+  by-outcome : (out : Outcome) (k : Cue) (none : Answer) → donePlan p o (planOf p (plain k Prior.Nothing)) ≡ none → donePlan p o (planOf p (metOutcome out k)) ≡ byOutcome out none p
   unfolding byOutcome acknowledged failed
   by-outcome NonePending k none e = e
   by-outcome Acknowledged k none e = led Prior.Ended Stimulus.Acknowledged false (λ m a. refl)
   by-outcome Again k none e = sent-again
   by-outcome Failed k none e = led Prior.Ended Stimulus.Failed false (λ m a. refl)
 
-  not-awaited : donePlan p p (planOf p (plain (Cue.Refused NotAwaited) Prior.Nothing)) ≡ refusedBy NotAwaited p
+  not-awaited : donePlan p o (planOf p (plain (Cue.Refused NotAwaited) Prior.Nothing)) ≡ refusedBy NotAwaited p
   unfolding planOf
   not-awaited = refl
 
-  pub own-event : (e : Event) → donePlan p p (planOf p (metEvent (p .channel) e)) ≡ eventOf p e
+  pub own-event : (e : Event) → donePlan p o (planOf p (metEvent (p .channel) e)) ≡ eventOf p e
   unfolding metEvent eventOf
   own-event Event.Attach = led Prior.Cleared Stimulus.Attach false (λ m a. refl)
   own-event Event.Detach = led Prior.Cleared Stimulus.Detach false (λ m a. refl)
@@ -109,32 +109,32 @@ module _ (p : Port) where
   -- ---- a packet
   -- what comes to Judge asks what it would be judged by there
   to-judge : (id : ℕ) (soft : Bool) (crc : GoodCrc) (runs : Timer) (a : Asked) →
-      performed p (record { verdict = Fine; prior = Prior.Heard id soft; crc = crc; runs = runs; change = Change.Nothing; way = Way.Judge; asks = true; asked = a }) ≡ turn (hearing p id soft) (stateOf p) crc runs Change.Nothing Way.Judge a
+      performed p o (record { verdict = Fine; prior = Prior.Heard id soft; crc = crc; runs = runs; change = Change.Nothing; way = Way.Judge; asks = true; asked = a }) ≡ turn (hearing p id soft) (stateOf p) crc runs Change.Nothing Way.Judge a
   unfolding performed turn enter
   to-judge id soft crc runs a = refl
 
   heard-so : (id : ℕ) (soft : Bool) (crc : GoodCrc) (runs : Timer) (a : Asked) (way : Way) (b : Bool) → isJudge way ≡ b →
-      performed p (record { verdict = Fine; prior = Prior.Heard id soft; crc = crc; runs = runs; change = Change.Nothing; way = way; asks = b; asked = a }) ≡ turn (hearing p id soft) (stateOf p) crc runs Change.Nothing way a
+      performed p o (record { verdict = Fine; prior = Prior.Heard id soft; crc = crc; runs = runs; change = Change.Nothing; way = way; asks = b; asked = a }) ≡ turn (hearing p id soft) (stateOf p) crc runs Change.Nothing way a
   heard-so id soft crc runs a way true e = rw (is-judge way e) (to-judge id soft crc runs a)
   heard-so id soft crc runs a way false e = performs (Prior.Heard id soft) crc runs Change.Nothing way a (λ m x. refl)
 
-  own-new : (f : Fields) (m : Meaning) (fit : Fit) → donePlan p p (planOf p (metNew f m fit)) ≡ newPacket p f m fit
+  own-new : (f : Fields) (m : Meaning) (fit : Fit) → donePlan p o (planOf p (metNew f m fit)) ≡ newPacket p f m fit
   unfolding planOf newPacket
   own-new f m fit = by-lead (onPacket (stateOf p) (heardAs m (f .«message_type») fit))
     where
-      by-lead : (l : Lead) → donePlan p p (planHeard l p (metNew f m fit)) ≡ ledBy p f m fit l
+      by-lead : (l : Lead) → donePlan p o (planHeard l p (metNew f m fit)) ≡ ledBy p f m fit l
       by-lead Refuse = refl
       by-lead (To way) = heard-so (f .«message_id») (isSoftReset m) (crcFor f) (runningIn p) (askedBy fit) way (isJudge way) refl
 
-  idle : (crc : GoodCrc) → donePlan p p (planOf p (record { cue = Cue.Done; prior = Prior.Nothing; crc = crc; asked = nothingAsked })) ≡ nothingDone crc p
+  idle : (crc : GoodCrc) → donePlan p o (planOf p (record { cue = Cue.Done; prior = Prior.Nothing; crc = crc; asked = nothingAsked })) ≡ nothingDone crc p
   unfolding planOf performed turn enter nothingDone
   idle crc = refl
 
-  own-other : (f : Fields) (m : Meaning) (fit : Fit) (b : Bool) → donePlan p p (planOf p (cond b (metRepeat f) (metNew f m fit))) ≡ cond b (nothingDone (crcFor f) p) (newPacket p f m fit)
+  own-other : (f : Fields) (m : Meaning) (fit : Fit) (b : Bool) → donePlan p o (planOf p (cond b (metRepeat f) (metNew f m fit))) ≡ cond b (nothingDone (crcFor f) p) (newPacket p f m fit)
   own-other f m fit true = idle (crcFor f)
   own-other f m fit false = own-new f m fit
 
-  own-meaning : (m : Meaning) (f : Fields) (fit : Fit) → donePlan p p (planOf p (metMeaning m p f fit)) ≡ byMeaning m p f fit
+  own-meaning : (m : Meaning) (f : Fields) (fit : Fit) → donePlan p o (planOf p (metMeaning m p f fit)) ≡ byMeaning m p f fit
   unfolding metMeaning byMeaning otherPacket goodCrcHeard
   own-meaning Meaning.Unsupported f fit = own-other f Meaning.Unsupported fit (isRepeat (p .channel) (f .«message_id») && true)
   own-meaning Meaning.GoodCrc f fit = by-outcome (onGoodCrc (p .channel) (f .«message_id»)) Cue.Done (nothingDone noCrc p) (idle noCrc)
@@ -144,25 +144,33 @@ module _ (p : Port) where
   own-meaning Meaning.Quiet f fit = own-other f Meaning.Quiet fit (isRepeat (p .channel) (f .«message_id») && true)
   own-meaning Meaning.Request f fit = own-other f Meaning.Request fit (isRepeat (p .channel) (f .«message_id») && true)
 
-  own-message : (objects : ℕ) (f : Fields) (fit : Fit) → donePlan p p (planOf p (metMessage p objects f fit)) ≡ messageOf p objects f fit
+  own-message : (objects : ℕ) (f : Fields) (fit : Fit) → donePlan p o (planOf p (metMessage p objects f fit)) ≡ messageOf p objects f fit
   unfolding metMessage messageOf
   own-message objects f fit = by-listening (listens (stateOf p))
     where
-      by-listening : (b : Bool) → donePlan p p (planOf p (cond b (metMeaning (meaningIn objects f) p f fit) (plain (Cue.Refused NotAwaited) Prior.Nothing))) ≡ cond b (byMeaning (meaningIn objects f) p f fit) (refusedBy NotAwaited p)
+      by-listening : (b : Bool) → donePlan p o (planOf p (cond b (metMeaning (meaningIn objects f) p f fit) (plain (Cue.Refused NotAwaited) Prior.Nothing))) ≡ cond b (byMeaning (meaningIn objects f) p f fit) (refusedBy NotAwaited p)
       by-listening true = own-meaning (meaningIn objects f) f fit
       by-listening false = not-awaited
 
-  unread : (r : Refusal) → donePlan p p (planOf p (plain (Cue.Refused r) Prior.Nothing)) ≡ refusedBy r p
+  unread : (r : Refusal) → donePlan p o (planOf p (plain (Cue.Refused r) Prior.Nothing)) ≡ refusedBy r p
   unfolding planOf
   unread r = refl
 
-  pub own-packet : (s : List ℕ) → donePlan p p (planOf p (metPacket p s)) ≡ packetOf p s
+  pub own-packet : (s : List ℕ) → donePlan p o (planOf p (metPacket p s)) ≡ packetOf p s
   unfolding metPacket packetOf
   own-packet s = by-reading (readOf s)
     where
-      by-reading : (r : Reading) → donePlan p p (planOf p (metReading r p s)) ≡ readTo r p s
+      by-reading : (r : Reading) → donePlan p o (planOf p (metReading r p s)) ≡ readTo r p s
       by-reading (Reading.Message objects f) = own-message objects f (fitOf objects (firstObject (partOf s)) (p .last))
       by-reading (Reading.Refused r) = unread r
+
+  pub own-offer : (limit : ℕ) → donePlan p o (planOf p (metOffer limit o)) ≡ newOfferOf p limit o
+  unfolding metOffer newOfferOf
+  own-offer limit = by-goodness (goodOffer limit o)
+    where
+      by-goodness : (b : Bool) → donePlan p o (planOf p (cond b (plain (Cue.Meets Stimulus.NewOffer false) Prior.Replaced) (plain (Cue.Refused BadOffer) Prior.Nothing))) ≡ offerJudged b p o
+      by-goodness true = led Prior.Replaced Stimulus.NewOffer false (λ m a. refl)
+      by-goodness false = unread BadOffer
 
 -- ---- the power answer within the event
 -- on the way over Judge the same timer is stopped as on the way past it
@@ -208,7 +216,7 @@ unfolding turn enter eventOf happens leads changeOf
 over-judge p s crc a pending true = rw (stopped-alike s pending true) refl
 over-judge p s crc a pending false = rw (stopped-alike s pending false) refl
 
-module _ (t : Slot) (others supply : ℕ) where
+module _ (t : Slot) (o : Offer) (others supply : ℕ) where
   unsettled : (a : Answer) → hasAsked (t .port) (a .port) ≡ false → settled t others supply a ≡ a
   unfolding settled
   unsettled a e = rw e refl
@@ -219,24 +227,24 @@ module _ (t : Slot) (others supply : ℕ) where
 
   -- what asks nothing, on a way that does not lead to Judge
   asks-nothing : (m : Met) (runs : Timer) (change : Change) (way : Way) → isJudge way ≡ false →
-      donePlan (t .port) (t .port) (settledPlan t others supply (goes m runs change false way)) ≡ settled t others supply (performed (t .port) (goes m runs change false way))
+      donePlan (t .port) o (settledPlan t others supply (goes m runs change false way)) ≡ settled t others supply (performed (t .port) o (goes m runs change false way))
   unfolding settledPlan
-  asks-nothing m runs change way w = sym (unsettled (performed (t .port) (goes m runs change false way)) (not-asked (t .port) (goes m runs change false way) refl w))
+  asks-nothing m runs change way w = sym (unsettled (performed (t .port) o (goes m runs change false way)) (not-asked (t .port) o (goes m runs change false way) refl w))
 
-  refused-so : (r : Refusal) → donePlan (t .port) (t .port) (settledPlan t others supply (refuses r)) ≡ settled t others supply (refusedBy r (t .port))
+  refused-so : (r : Refusal) → donePlan (t .port) o (settledPlan t others supply (refuses r)) ≡ settled t others supply (refusedBy r (t .port))
   unfolding settledPlan
   refused-so r = sym (unsettled (refusedBy r (t .port)) (never (same (stateOf (t .port)) State.Judge)))
 
   -- what asks: the power answer is in it
   answered-so : (h : Heard) (id : ℕ) (soft : Bool) (crc : GoodCrc) (a : Asked) (yes′ : Bool) →
-      donePlan (t .port) (t .port) (answeredBy yes′ (goes (record { cue = Cue.Hears h; prior = Prior.Heard id soft; crc = crc; asked = a }) (runningIn (t .port)) Change.Nothing true Way.Judge))
+      donePlan (t .port) o (answeredBy yes′ (goes (record { cue = Cue.Hears h; prior = Prior.Heard id soft; crc = crc; asked = a }) (runningIn (t .port)) Change.Nothing true Way.Judge))
       ≡ judged yes′ (turn (hearing (t .port) id soft) (stateOf (t .port)) crc (runningIn (t .port)) Change.Nothing Way.Judge a)
   unfolding judged performed
   answered-so h id soft crc a true = sym (over-judge (hearing (t .port) id soft) (stateOf (t .port)) crc a (pendingIn (t .port)) true)
   answered-so h id soft crc a false = sym (over-judge (hearing (t .port) id soft) (stateOf (t .port)) crc a (pendingIn (t .port)) false)
 
   asks-so : (h : Heard) (id : ℕ) (soft : Bool) (crc : GoodCrc) (a : Asked) → same (stateOf (t .port)) State.Judge ≡ false →
-      donePlan (t .port) (t .port) (settledPlan t others supply (goes (record { cue = Cue.Hears h; prior = Prior.Heard id soft; crc = crc; asked = a }) (runningIn (t .port)) Change.Nothing true Way.Judge))
+      donePlan (t .port) o (settledPlan t others supply (goes (record { cue = Cue.Hears h; prior = Prior.Heard id soft; crc = crc; asked = a }) (runningIn (t .port)) Change.Nothing true Way.Judge))
       ≡ settled t others supply (turn (hearing (t .port) id soft) (stateOf (t .port)) crc (runningIn (t .port)) Change.Nothing Way.Judge a)
   unfolding settledPlan turn enter
   asks-so h id soft crc a elsewhere =
@@ -244,21 +252,21 @@ module _ (t : Slot) (others supply : ℕ) where
       ∙ sym (asked-so (turn (hearing (t .port) id soft) (stateOf (t .port)) crc (runningIn (t .port)) Change.Nothing Way.Judge a) (and (not (same (stateOf (t .port)) State.Judge)) true (not-false (same (stateOf (t .port)) State.Judge) elsewhere) refl))
 
   led-so : (m : Met) (e : Stimulus) (expired : Bool) (l : Lead) → T (quietTest l) →
-      donePlan (t .port) (t .port) (settledPlan t others supply (planLed l e expired (t .port) m)) ≡ settled t others supply (donePlan (t .port) (t .port) (planLed l e expired (t .port) m))
+      donePlan (t .port) o (settledPlan t others supply (planLed l e expired (t .port) m)) ≡ settled t others supply (donePlan (t .port) o (planLed l e expired (t .port) m))
   led-so m e expired Refuse k = refused-so NotAwaited
   led-so m e expired (To way) k = asks-nothing m (stillRuns expired (runningIn (t .port))) (changeOf (stateOf (t .port)) e) way (not-true (isJudge way) (holds (not (isJudge way)) k))
 
   heard-so′ : (h : Heard) (id : ℕ) (soft : Bool) (crc : GoodCrc) (a : Asked) (way : Way) (b : Bool) → isJudge way ≡ b → T (askTest (stateOf (t .port)) (To way)) →
-      donePlan (t .port) (t .port) (settledPlan t others supply (goes (record { cue = Cue.Hears h; prior = Prior.Heard id soft; crc = crc; asked = a }) (runningIn (t .port)) Change.Nothing b way))
-      ≡ settled t others supply (performed (t .port) (goes (record { cue = Cue.Hears h; prior = Prior.Heard id soft; crc = crc; asked = a }) (runningIn (t .port)) Change.Nothing b way))
+      donePlan (t .port) o (settledPlan t others supply (goes (record { cue = Cue.Hears h; prior = Prior.Heard id soft; crc = crc; asked = a }) (runningIn (t .port)) Change.Nothing b way))
+      ≡ settled t others supply (performed (t .port) o (goes (record { cue = Cue.Hears h; prior = Prior.Heard id soft; crc = crc; asked = a }) (runningIn (t .port)) Change.Nothing b way))
   heard-so′ h id soft crc a way false e k = asks-nothing (record { cue = Cue.Hears h; prior = Prior.Heard id soft; crc = crc; asked = a }) (runningIn (t .port)) Change.Nothing way e
   heard-so′ h id soft crc a way true e k =
-      rw (is-judge way e, to-judge (t .port) id soft crc (runningIn (t .port)) a)
+      rw (is-judge way e, to-judge (t .port) o id soft crc (runningIn (t .port)) a)
       (asks-so h id soft crc a (not-true (same (stateOf (t .port)) State.Judge) (then (isJudge way) (not (same (stateOf (t .port)) State.Judge)) k e)))
 
   heard-led : (h : Heard) (id : ℕ) (soft : Bool) (crc : GoodCrc) (a : Asked) (l : Lead) → T (askTest (stateOf (t .port)) l) →
-      donePlan (t .port) (t .port) (settledPlan t others supply (planHeard l (t .port) (record { cue = Cue.Hears h; prior = Prior.Heard id soft; crc = crc; asked = a })))
-      ≡ settled t others supply (donePlan (t .port) (t .port) (planHeard l (t .port) (record { cue = Cue.Hears h; prior = Prior.Heard id soft; crc = crc; asked = a })))
+      donePlan (t .port) o (settledPlan t others supply (planHeard l (t .port) (record { cue = Cue.Hears h; prior = Prior.Heard id soft; crc = crc; asked = a })))
+      ≡ settled t others supply (donePlan (t .port) o (planHeard l (t .port) (record { cue = Cue.Hears h; prior = Prior.Heard id soft; crc = crc; asked = a })))
   heard-led h id soft crc a Refuse k = refused-so NotAwaited
   heard-led h id soft crc a (To way) k = heard-so′ h id soft crc a way (isJudge way) refl k
 
@@ -269,7 +277,7 @@ module _ (t : Slot) (others supply : ℕ) where
     meeting : (e : Stimulus) (expired : Bool) (prior : Prior) → Sound (plain (Cue.Meets e expired) prior)
     hearing-so : (h : Heard) (id : ℕ) (soft : Bool) (crc : GoodCrc) (a : Asked) → Sound (record { cue = Cue.Hears h; prior = Prior.Heard id soft; crc = crc; asked = a })
 
-  settles : (m : Met) → Sound m → donePlan (t .port) (t .port) (settledPlan t others supply (planOf (t .port) m)) ≡ settled t others supply (donePlan (t .port) (t .port) (planOf (t .port) m))
+  settles : (m : Met) → Sound m → donePlan (t .port) o (settledPlan t others supply (planOf (t .port) m)) ≡ settled t others supply (donePlan (t .port) o (planOf (t .port) m))
   unfolding planOf
   settles m (refusing r) = refused-so r
   settles m (nothing-more prior crc a) = asks-nothing (record { cue = Cue.Done; prior = prior; crc = crc; asked = a }) NoTimer Change.Nothing Way.Stay refl
@@ -319,36 +327,20 @@ module _ (t : Slot) (others supply : ℕ) where
   sound-packet s = sound-reading (readOf s) s
 
   -- THE CLAIM: an event's answer
-  pub event-alike : (e : Event) → doneOf t (t .port) (metEvent (t .port .channel) e) others supply ≡ settled t others supply (eventOf (t .port) e)
+  pub event-alike : (e : Event) → doneOf t o (metEvent (t .port .channel) e) others supply ≡ settled t others supply (eventOf (t .port) e)
   unfolding doneOf
-  event-alike e = settles (metEvent (t .port .channel) e) (sound-event e) ∙ ap (settled t others supply) (own-event (t .port) e)
+  event-alike e = settles (metEvent (t .port .channel) e) (sound-event e) ∙ ap (settled t others supply) (own-event (t .port) o e)
 
   -- THE CLAIM: a packet's answer
-  pub packet-alike : (s : List ℕ) → doneOf t (t .port) (metPacket (t .port) s) others supply ≡ settled t others supply (packetOf (t .port) s)
+  pub packet-alike : (s : List ℕ) → doneOf t o (metPacket (t .port) s) others supply ≡ settled t others supply (packetOf (t .port) s)
   unfolding doneOf
-  packet-alike s = settles (metPacket (t .port) s) (sound-packet s) ∙ ap (settled t others supply) (own-packet (t .port) s)
+  packet-alike s = settles (metPacket (t .port) s) (sound-packet s) ∙ ap (settled t others supply) (own-packet (t .port) o s)
 
-  -- ---- a new offer: the port that goes on has it already
-  offered-so : (o : Offer) (l : Lead) → T (quietTest l) →
-      donePlan (t .port) (replaced (t .port) o) (settledPlan t others supply (planLed l Stimulus.NewOffer false (replaced (t .port) o) (plain (Cue.Meets Stimulus.NewOffer false) Prior.Nothing)))
-      ≡ settled t others supply (ledTo (t .port) Stimulus.NewOffer (replaced (t .port) o) (runningIn (t .port)) l)
-  unfolding settledPlan
-  offered-so o Refuse k = sym (unsettled (refusedBy NotAwaited (t .port)) (never (same (stateOf (t .port)) State.Judge)))
-  offered-so o (To way) k =
-      let q = replaced (t .port) o in
-      let x : Plan = goes (plain (Cue.Meets Stimulus.NewOffer false) Prior.Nothing) (runningIn q) (changeOf (stateOf q) Stimulus.NewOffer) false way in
-      sym (unsettled (performed q x) (not-asked q x refl (not-true (isJudge way) (holds (not (isJudge way)) k))))
-      ∙ ap (settled t others supply) (performs q Prior.Nothing noCrc (runningIn q) (changeOf (stateOf q) Stimulus.NewOffer) way nothingAsked (λ m a. refl))
-
-  judged-so : (o : Offer) (b : Bool) →
-      donePlan (t .port) (replaced (t .port) o)
-      (settledPlan t others supply (planOf (replaced (t .port) o) (cond b (plain (Cue.Meets Stimulus.NewOffer false) Prior.Nothing) (plain (Cue.Refused BadOffer) Prior.Nothing))))
-      ≡ settled t others supply (offerJudged b (t .port) o)
-  unfolding planOf happens leads settledPlan
-  judged-so o true = offered-so o (leads (stateOf (t .port)) Stimulus.NewOffer (factsOf (t .port))) (no-stimulus-asks (stateOf (t .port)) Stimulus.NewOffer (factsOf (t .port)))
-  judged-so o false = sym (unsettled (refusedBy BadOffer (t .port)) (never (same (stateOf (t .port)) State.Judge)))
+  sound-offer : (limit : ℕ) (x : Offer) (b : Bool) → Sound (cond b (plain (Cue.Meets Stimulus.NewOffer false) Prior.Replaced) (plain (Cue.Refused BadOffer) Prior.Nothing))
+  sound-offer limit x true = meeting Stimulus.NewOffer false Prior.Replaced
+  sound-offer limit x false = refusing BadOffer
 
   -- THE CLAIM: a new offer's answer
-  pub offer-alike : (o : Offer) → doneOf t (replaced (t .port) o) (metOffer (t .limit) o) others supply ≡ settled t others supply (newOfferOf (t .port) (t .limit) o)
-  unfolding doneOf metOffer newOfferOf
-  offer-alike o = judged-so o (goodOffer (t .limit) o)
+  pub offer-alike : doneOf t o (metOffer (t .limit) o) others supply ≡ settled t others supply (newOfferOf (t .port) (t .limit) o)
+  unfolding doneOf metOffer
+  offer-alike = settles (metOffer (t .limit) o) (sound-offer (t .limit) o (goodOffer (t .limit) o)) ∙ ap (settled t others supply) (own-offer (t .port) o (t .limit))

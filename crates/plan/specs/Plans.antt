@@ -41,7 +41,7 @@ use Rattle.port.specs.declared.Answer.{Answer}
 use Rattle.port.specs.declared.Event.{Event}
 use Rattle.port.specs.Parts.{channel-is, power-is}
 use Rattle.port.specs.Memory.{stateOf, cleared, factsOf, runningIn, noCrc, refusedBy}
-use Rattle.port.specs.Steps.{turn, ending}
+use Rattle.port.specs.Steps.{turn, ending, replaced}
 use Rattle.port.specs.Packets.{firstObject, meaningIn, heardAs, askedBy, isSoftReset, crcFor, hearing}
 use Rattle.slot.specs.declared.Slot.{Slot}
 use Rattle.slot.specs.Load.{approves}
@@ -104,7 +104,7 @@ unfoldable pub metPacket : Port → List ℕ → Met
 metPacket p s = metReading (readOf s) p s
 
 unfoldable pub metOffer : ℕ → Offer → Met
-metOffer limit o = cond (goodOffer limit o) (plain (Cue.Meets Stimulus.NewOffer false) Prior.Nothing) (plain (Cue.Refused BadOffer) Prior.Nothing)
+metOffer limit o = cond (goodOffer limit o) (plain (Cue.Meets Stimulus.NewOffer false) Prior.Replaced) (plain (Cue.Refused BadOffer) Prior.Nothing)
 
 -- ---- what is to be done
 abbrev pub refuses : Refusal → Plan
@@ -165,12 +165,14 @@ unfoldable pub settledPlan : Slot → ℕ → ℕ → Plan → Plan
 settledPlan t others supply x = cond (x .asks) (answeredBy (approves t others supply (x .asked .worth)) x) x
 
 -- ---- what is done
-abbrev pub after : Prior → Port → Port
-after Prior.Nothing p = p
-after Prior.Cleared p = cleared p
-after Prior.Ended p = ending p
-after Prior.Again p = channel-is (again (p .channel)) p
-after (Prior.Heard id soft) p = hearing p id soft
+-- the port as the protocol rules leave it, or with the new offer o
+abbrev pub after : Prior → Offer → Port → Port
+after Prior.Nothing o p = p
+after Prior.Cleared o p = cleared p
+after Prior.Ended o p = ending p
+after Prior.Again o p = channel-is (again (p .channel)) p
+after (Prior.Heard id soft) o p = hearing p id soft
+after Prior.Replaced o p = replaced p o
 
 abbrev pub judging : Bool → Asked → Port → Port
 judging true a p = power-is (judges (p .power) a) p
@@ -199,17 +201,18 @@ resends Prior.Cleared m a = a
 resends Prior.Ended m a = a
 resends Prior.Again m a = transmits m a
 resends (Prior.Heard id soft) m a = a
+resends Prior.Replaced m a = a
 
-unfoldable pub performed : Port → Plan → Answer
-performed p x = resends (x .prior) (p .channel .pending .packet) (turn (judging (x .asks) (x .asked) (after (x .prior) p)) (stateOf p) (x .crc) (x .runs) (x .change) (x .way) (x .asked))
+unfoldable pub performed : Port → Offer → Plan → Answer
+performed p o x = resends (x .prior) (p .channel .pending .packet) (turn (judging (x .asks) (x .asked) (after (x .prior) o p)) (stateOf p) (x .crc) (x .runs) (x .change) (x .way) (x .asked))
 
--- `p` is the port that the event came to, `received` the same with a new offer in it
-abbrev pub doneBy : Verdict → Port → Port → Plan → Answer
-doneBy Fine p received x = performed received x
-doneBy (Refused r) p received x = refusedBy r p
+abbrev pub doneBy : Verdict → Port → Offer → Plan → Answer
+doneBy Fine p o x = performed p o x
+doneBy (Refused r) p o x = refusedBy r p
 
-abbrev pub donePlan : Port → Port → Plan → Answer
-donePlan p received x = doneBy (x .verdict) p received x
+abbrev pub donePlan : Port → Offer → Plan → Answer
+donePlan p o x = doneBy (x .verdict) p o x
 
-unfoldable pub doneOf : Slot → Port → Met → ℕ → ℕ → Answer
-doneOf t received m others supply = donePlan (t .port) received (settledPlan t others supply (planOf received m))
+-- a port's answer; o is the new offer, where one has come
+unfoldable pub doneOf : Slot → Offer → Met → ℕ → ℕ → Answer
+doneOf t o m others supply = donePlan (t .port) o (settledPlan t others supply (planOf (t .port) m))

@@ -3,6 +3,7 @@ ghost use mathlib.Core.Path.{_≡_};
 ghost use Rattle.port.specs.Memory.{refusedBy};
 ghost use Rattle.port.specs.Parts.{channel-is};
 ghost use Rattle.port.specs.Packets.{hearing};
+ghost use Rattle.port.specs.Steps.{replaced};
 ghost use Rattle.plan.specs.Plans.{after, judging, transmits, resends, performed, donePlan};
 use crate::Plan;
 use crate::Prior;
@@ -11,13 +12,13 @@ use channel::Channel;
 use ground::Refusal;
 use ground::Verdict;
 use offers::Asked;
+use offers::Offer;
 use outgoing::Packet;
 use port::Actions;
 use port::Answer;
 use port::Port;
 use port::Supply;
 use power::Change;
-use slot::Slot;
 use source::Timer;
 
 const NO_PACKET: Packet = Packet {
@@ -44,9 +45,18 @@ fn hearing(p: Port, id: u8, soft: bool) -> Port
     q
 }
 
-// The port as the protocol rules leave it.
-fn after(x: Prior, p: Port) -> Port
-    ensures { λ r. ⌜ r ≡ after x p ⌝ }
+fn replaced(p: Port, o: Offer) -> Port
+    ensures { λ r. ⌜ r ≡ replaced p o ⌝ }
+{
+    let mut q = p;
+    q.newest = o;
+    q.gone_out = false;
+    q
+}
+
+// The port as the protocol rules leave it, or with its new offer.
+fn after(x: Prior, o: Offer, p: Port) -> Port
+    ensures { λ r. ⌜ r ≡ after x o p ⌝ }
 {
     let c = p.channel;
     let newest = p.newest;
@@ -56,6 +66,7 @@ fn after(x: Prior, p: Port) -> Port
         Prior::Ended => with_channel(p, c.ended()),
         Prior::Again => with_channel(p, c.again()),
         Prior::Heard(id, soft) => hearing(p, id, soft),
+        Prior::Replaced => replaced(p, o),
     }
 }
 
@@ -109,11 +120,12 @@ fn resends(x: Prior, m: Packet, a: Answer) -> Answer
         Prior::Ended => a,
         Prior::Again => transmits(m, a),
         Prior::Heard(_, _) => a,
+        Prior::Replaced => a,
     }
 }
 
-fn performed(p: Port, x: Plan) -> Answer
-    ensures { λ r. ⌜ r ≡ performed p x ⌝ }
+fn performed(p: Port, o: Offer, x: Plan) -> Answer
+    ensures { λ r. ⌜ r ≡ performed p o x ⌝ }
 {
     let phase = p.phase;
     let s = phase.state;
@@ -124,7 +136,7 @@ fn performed(p: Port, x: Plan) -> Answer
     let way = x.way;
     let asked = x.asked;
     let pending = p.channel.pending.packet;
-    let q = judging(x.asks, asked, after(prior, p));
+    let q = judging(x.asks, asked, after(prior, o, p));
     resends(prior, pending, q.turn(s, crc, runs, change, way, asked))
 }
 
@@ -148,13 +160,13 @@ fn refused(r: Refusal, p: Port) -> Answer
     }
 }
 
-// A refusal leaves the port that the event came to as it was.
-pub(crate) fn by_verdict(t: Slot, received: Port, x: Plan) -> Answer
-    ensures { λ r. ⌜ r ≡ donePlan (t .port) received x ⌝ }
+// A refusal leaves the port as it was.
+pub(crate) fn by_verdict(p: Port, o: Offer, x: Plan) -> Answer
+    ensures { λ r. ⌜ r ≡ donePlan p o x ⌝ }
 {
     let verdict = x.verdict;
     match verdict {
-        Verdict::Fine => performed(received, x),
-        Verdict::Refused(r) => refused(r, t.port),
+        Verdict::Fine => performed(p, o, x),
+        Verdict::Refused(r) => refused(r, p),
     }
 }

@@ -29,6 +29,7 @@ pub enum Prior {
     Ended,
     Again,
     Heard(u8, bool),
+    Replaced,
 }
 
 // What is left of an event once the protocol rules have been asked: a refusal, nothing more to do, a
@@ -82,11 +83,12 @@ pub fn new_offer(limit: u32, o: Offer) -> Met
     meeting::new_offer(limit, o)
 }
 
-// The answer of a port beside others that take so much of the supply. `received` is the port with a new
-// offer in it, or the very same.
-pub fn done(t: Slot, received: Port, m: Met, others: u64, supply: u32) -> Answer
-    ensures { λ r. ⌜ r ≡ doneOf t received m others supply ⌝ }
+// The answer of a port beside others that take so much of the supply. `o` is the new offer, where one has
+// come.
+pub fn done(t: Slot, o: Offer, m: Met, others: u64, supply: u32) -> Answer
+    ensures { λ r. ⌜ r ≡ doneOf t o m others supply ⌝ }
 {
-    let x = deciding::decided(received, m);
-    doing::by_verdict(t, received, deciding::settled(t, x, others, supply))
+    let p = t.port;
+    let x = deciding::decided(p, m);
+    doing::by_verdict(p, o, deciding::settled(t, x, others, supply))
 }

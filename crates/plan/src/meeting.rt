@@ -180,7 +180,7 @@ pub(crate) fn new_offer(limit: u32, o: Offer) -> Met
     ensures { λ r. ⌜ r ≡ metOffer limit o ⌝ }
 {
     if offers::good(limit, o) {
-        return meets(Stimulus::NewOffer, Prior::Nothing);
+        return meets(Stimulus::NewOffer, Prior::Replaced);
     }
     plain(Cue::Refused(Refusal::BadOffer), Prior::Nothing)
 }

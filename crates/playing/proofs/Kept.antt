@@ -43,7 +43,7 @@ unfolding nightIn
 read-on zero p l h e = absurd (not-suc-le-zero h)
 read-on (suc n) p l h e = let one-less : suc n - 1 ≡ n = omega arith in rw (e, one-less) refl
 
-pub read-no-more : (n : ℕ) (p : Played) (l : List ℕ) → isReadable (nextOf l) l ≡ false → nightIn n p l ≡ p
+read-no-more : (n : ℕ) (p : Played) (l : List ℕ) → isReadable (nextOf l) l ≡ false → nightIn n p l ≡ p
 unfolding nightIn
 read-no-more zero p l e = refl
 read-no-more (suc n) p l e = rw e refl
@@ -82,7 +82,7 @@ is-set-up (Found.Packet number) e = true-not-false (sym e)
 is-set-up (Found.NewOffer number) e = true-not-false (sym e)
 
 -- neither an event nor a set-up, or a set-up that is not laid out as it must be
-pub unreadable : (found : Found) (l : List ℕ) → isEvent found ≡ false → isSetUp found ≡ false → isReadable found l ≡ false
+unreadable : (found : Found) (l : List ℕ) → isEvent found ≡ false → isSetUp found ≡ false → isReadable found l ≡ false
 unreadable Found.Cut l e k = refl
 unreadable Found.UnknownTag l e k = refl
 unreadable Found.WrongLength l e k = refl
@@ -91,7 +91,7 @@ unreadable (Found.Event number x) l e k = true-not-false e
 unreadable (Found.Packet number) l e k = true-not-false e
 unreadable (Found.NewOffer number) l e k = true-not-false e
 
-pub unlaid : (found : Found) (l : List ℕ) → isSetUp found ≡ true → setUpIn l .whole ≡ false → isReadable found l ≡ false
+unlaid : (found : Found) (l : List ℕ) → isSetUp found ≡ true → setUpIn l .whole ≡ false → isReadable found l ≡ false
 unlaid found l e k = rw (is-set-up found e) k
 
 -- a field that is found is whole
@@ -154,8 +154,14 @@ module _ {r : Rack} {t : Tally} {s : List ℕ} {slots : List Slot} {count supply
   set-up-reaches e = reaches (set-up-whole f (ap isSetUp (sym isfound) ∙ e))
 
   -- the loop ends here
-  pub stops : isReadable found f ≡ false → held slots count supply tally place ≡ nightIn (length s) (begun r t) s
+  stops : isReadable found f ≡ false → held slots count supply tally place ≡ nightIn (length s) (begun r t) s
   stops e = sym (inv .rest ∙ read-no-more left (held slots count supply tally place) (drop place s) (subst (λ (l : List ℕ). isReadable (nextOf l) l ≡ false) isf (subst (λ (x : Found). isReadable x f ≡ false) isfound e)))
+
+  pub stops-unlaid : isSetUp found ≡ true → setUpIn f .whole ≡ false → held slots count supply tally place ≡ nightIn (length s) (begun r t) s
+  stops-unlaid e k = stops (unlaid found f e k)
+
+  pub stops-unread : isEvent found ≡ false → isSetUp found ≡ false → held slots count supply tally place ≡ nightIn (length s) (begun r t) s
+  stops-unread e k = stops (unreadable found f e k)
 
   -- the loop goes on, with what the field came to
   goes-on : isReadable found f ≡ true → place + sizeOf f ≤ length s → (slots′ : List Slot) (count′ supply′ sum′ : ℕ) (tally′ : Tally) →

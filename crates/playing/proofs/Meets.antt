@@ -10,14 +10,14 @@ use Rattle.night.specs.Events.{behindOf, offerOf}
 use Rattle.plan.specs.Plans.{doneOf}
 use Rattle.plan.proofs.SameAsStepping.{event-alike, packet-alike, offer-alike}
 use Rattle.playing.specs.Nights.{steppedBy}
-use Rattle.playing.specs.Meeting.{metIn, receivedIn}
+use Rattle.playing.specs.Meeting.{metIn, offerIn}
 
-pub as-stepped : (t : Slot) (found : Found) (l : List ℕ) (others supply : ℕ) → doneOf t (receivedIn (t .port) found l) (metIn t found l) others supply ≡ steppedBy t found l others supply
+pub as-stepped : (t : Slot) (found : Found) (l : List ℕ) (others supply : ℕ) → doneOf t (offerIn (t .port) found l) (metIn t found l) others supply ≡ steppedBy t found l others supply
 unfolding steppedBy Port.step
-as-stepped t Found.Cut l others supply = event-alike t others supply Event.Attach
-as-stepped t Found.UnknownTag l others supply = event-alike t others supply Event.Attach
-as-stepped t Found.WrongLength l others supply = event-alike t others supply Event.Attach
-as-stepped t Found.SetUp l others supply = event-alike t others supply Event.Attach
-as-stepped t (Found.Event number e) l others supply = event-alike t others supply e
-as-stepped t (Found.Packet number) l others supply = packet-alike t others supply (behindOf l)
-as-stepped t (Found.NewOffer number) l others supply = offer-alike t others supply (offerOf l)
+as-stepped t Found.Cut l others supply = event-alike t (t .port .newest) others supply Event.Attach
+as-stepped t Found.UnknownTag l others supply = event-alike t (t .port .newest) others supply Event.Attach
+as-stepped t Found.WrongLength l others supply = event-alike t (t .port .newest) others supply Event.Attach
+as-stepped t Found.SetUp l others supply = event-alike t (t .port .newest) others supply Event.Attach
+as-stepped t (Found.Event number e) l others supply = event-alike t (t .port .newest) others supply e
+as-stepped t (Found.Packet number) l others supply = packet-alike t (t .port .newest) others supply (behindOf l)
+as-stepped t (Found.NewOffer number) l others supply = offer-alike t (offerOf l) others supply

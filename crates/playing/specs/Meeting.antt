@@ -1,9 +1,9 @@
 -- What the loop goes by: a field as `plan` takes it, and the size of loads.
 use mathlib.Core.List.{List}
 use Prim.Native.Nat.{ℕ, _<_}
+use Rattle.offers.specs.declared.Offer.{Offer}
 use Rattle.port.specs.declared.Port.{Port}
 use Rattle.port.specs.declared.Event.{Event}
-use Rattle.port.specs.Steps.{replaced}
 use Rattle.slot.specs.declared.Slot.{Slot}
 use Rattle.slot.specs.Load.{loadOf}
 use Rattle.rack.specs.declared.Rack.{Rack}
@@ -22,14 +22,15 @@ metIn t (Found.Event number e) l = metEvent (t .port .channel) e
 metIn t (Found.Packet number) l = metPacket (t .port) (behindOf l)
 metIn t (Found.NewOffer number) l = metOffer (t .limit) (offerOf l)
 
-abbrev pub receivedIn : Port → Found → List ℕ → Port
-receivedIn p Found.Cut l = p
-receivedIn p Found.UnknownTag l = p
-receivedIn p Found.WrongLength l = p
-receivedIn p Found.SetUp l = p
-receivedIn p (Found.Event number e) l = p
-receivedIn p (Found.Packet number) l = p
-receivedIn p (Found.NewOffer number) l = replaced p (offerOf l)
+-- the new offer, where one has come
+abbrev pub offerIn : Port → Found → List ℕ → Offer
+offerIn p Found.Cut l = p .newest
+offerIn p Found.UnknownTag l = p .newest
+offerIn p Found.WrongLength l = p .newest
+offerIn p Found.SetUp l = p .newest
+offerIn p (Found.Event number e) l = p .newest
+offerIn p (Found.Packet number) l = p .newest
+offerIn p (Found.NewOffer number) l = offerOf l
 
 -- no port takes more than a number of four bytes can say
 abbrev pub Small : Rack → Type 0

@@ -1,8 +1,7 @@
 // A field as the loop meets it.
 ghost use mathlib.Core.Path.{_≡_};
-ghost use Rattle.port.specs.Steps.{replaced};
 ghost use Rattle.playing.specs.Nights.{isEvent, isSetUp, numberIn, steppedBy};
-ghost use Rattle.playing.specs.Meeting.{metIn, receivedIn};
+ghost use Rattle.playing.specs.Meeting.{metIn, offerIn};
 use night::Found;
 use offers::Offer;
 use plan::Met;
@@ -69,27 +68,19 @@ fn met(t: Slot, found: Found, f: &[u8]) -> Met
     }
 }
 
-fn replaced(p: Port, o: Offer) -> Port
-    ensures { λ r. ⌜ r ≡ replaced p o ⌝ }
+// The new offer, where one has come.
+fn offer_in(p: Port, found: Found, f: &[u8]) -> Offer
+    ensures { λ r. ⌜ r ≡ offerIn p found (now (f .entry)) ⌝ }
 {
-    let mut q = p;
-    q.newest = o;
-    q.gone_out = false;
-    q
-}
-
-// The port with a new offer in it, where one has come.
-fn received(p: Port, found: Found, f: &[u8]) -> Port
-    ensures { λ r. ⌜ r ≡ receivedIn p found (now (f .entry)) ⌝ }
-{
+    let newest = p.newest;
     match found {
-        Found::Cut => p,
-        Found::UnknownTag => p,
-        Found::WrongLength => p,
-        Found::SetUp => p,
-        Found::Event(_, _) => p,
-        Found::Packet(_) => p,
-        Found::NewOffer(_) => replaced(p, night::offer(f)),
+        Found::Cut => newest,
+        Found::UnknownTag => newest,
+        Found::WrongLength => newest,
+        Found::SetUp => newest,
+        Found::Event(_, _) => newest,
+        Found::Packet(_) => newest,
+        Found::NewOffer(_) => night::offer(f),
     }
 }
 
@@ -98,7 +89,7 @@ pub(crate) fn stepped(t: Slot, found: Found, f: &[u8], others: u64, supply: u32)
     ensures { λ r. ⌜ r ≡ steppedBy t found (now (f .entry)) others supply ⌝ }
 {
     let p = t.port;
-    let q = received(p, found, f);
+    let o = offer_in(p, found, f);
     let m = met(t, found, f);
-    plan::done(t, q, m, others, supply)
+    plan::done(t, o, m, others, supply)
 }

@@ -158,10 +158,9 @@ impl Tally {
     ) -> Tally
         ensures { λ r. ⌜ r ≡ told self port v a before after held ⌝ }
     {
-        let verdicts = self.verdicts;
         let k = verdict_number(v) as usize;
         let mut t = self;
-        t.verdicts[k] = one_more(verdicts[k]);
+        t.verdicts[k] = one_more(t.verdicts[k]);
         t.accepts = counted_if(comes_to(State::Accepting, before, after), self.accepts);
         t.rejects = counted_if(comes_to(State::Refusing, before, after), self.rejects);
         t.hard_resets = counted_if(comes_to(State::Hard, before, after), self.hard_resets);

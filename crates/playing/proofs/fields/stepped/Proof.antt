@@ -11,4 +11,4 @@ stepped-spec =
     (λ c κs. search needs)
     (λ c κs. search needs)
     (λ c κs. search needs)
-    (λ c. c .done .ensures ∙ rw (c .before .met .ensures, c .before .before .received .ensures) (as-stepped _ _ _ _ _)))
+    (λ c. c .done .ensures ∙ rw (c .before .met .ensures, c .before .before .offer-in .ensures) (as-stepped _ _ _ _ _)))

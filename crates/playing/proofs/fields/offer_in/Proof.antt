@@ -1,10 +1,10 @@
 use borrow.Author.Needs.{needs}
 use mathlib.Core.Path.{_∙_}
-use Rattle.playing.proofs.fields.received.Statement.{statement}
-use Rattle.playing.proofs.fields.received.Tie as tie
+use Rattle.playing.proofs.fields.offer_in.Statement.{statement}
+use Rattle.playing.proofs.fields.offer_in.Tie as tie
 
-pub received-spec : {M : Type 1} → statement M
-received-spec =
+pub offer-in-spec : {M : Type 1} → statement M
+offer-in-spec =
     tie.close
     (tie.spec
     (λ c. search needs)
@@ -15,11 +15,10 @@ received-spec =
     (λ c. search needs)
     (λ c. search needs)
     (λ c κs. search needs)
-    (λ c κs. search needs)
     (λ c. rw (c .enum-told .given .1))
     (λ c. rw (c .enum-told2 .given .1))
     (λ c. rw (c .enum-told3 .given .1))
     (λ c. rw (c .enum-told4 .given .1))
     (λ c. rw (c .enum-told5 .given .1))
     (λ c. rw (c .enum-told6 .given .1))
-    (λ c. c .replaced .ensures ∙ rw (c .before .offer .ensures, c .before .before .enum-told7 .given .1)))
+    (λ c. c .offer .ensures ∙ rw (c .before .enum-told7 .given .1)))
