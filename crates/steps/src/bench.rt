@@ -85,11 +85,11 @@ impl Bench {
         let bytes = r.bytes;
         let p = self.port;
         match c {
-            // No such line is understood, and so none comes here; an offer of no objects is refused.
-            Coming::Unknown => p.new_offer(self.limit, r.offer()),
             Coming::Lone(e) => p.event(e),
             Coming::Packet => p.packet(first(&bytes, r.count)),
-            Coming::Offer => p.new_offer(self.limit, r.offer()),
+            // An offer. What is unknown is not understood, and so does not come here; it would be refused
+            // as an offer of no objects.
+            _ => p.new_offer(self.limit, r.offer()),
         }
     }
 
@@ -115,11 +115,10 @@ impl Bench {
         let bytes = r.bytes;
         let rack = self.rack;
         match c {
-            // As above: none comes here.
-            Coming::Unknown => rack.new_offer(number, r.offer()),
             Coming::Lone(e) => rack.event(number, e),
             Coming::Packet => rack.packet(number, first(&bytes, r.count)),
-            Coming::Offer => rack.new_offer(number, r.offer()),
+            // As above.
+            _ => rack.new_offer(number, r.offer()),
         }
     }
 
