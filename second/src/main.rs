@@ -26,6 +26,7 @@ mod packet;
 mod packet_cases;
 mod packet_lines;
 mod port;
+mod race;
 mod rack;
 mod rack_cases;
 mod rack_lines;
@@ -75,7 +76,11 @@ These write what to try the programs with:
                 the small cut or damaged night with the number N, counted from 0;
                 past the last one it writes nothing and ends with status 3
   random-night SEED EVENTS PORTS
-                a night by chance: so many events at a rack of 1 to 8 ports";
+                a night by chance: so many events at a rack of 1 to 8 ports
+
+And this tells how fast a program is (docs/SPEED.md):
+  race ROUNDS NIGHT PROGRAM
+                runs PROGRAM and `second quiet` in turns on the file NIGHT";
 
 /// The status of `damaged-cases` where there is no such night.
 const PAST_THE_LAST: u8 = 3;
@@ -110,6 +115,7 @@ fn run(words: &[&str], output: impl Write) -> io::Result<ExitCode> {
         ["night-cases"] => night_cases::print_all(output)?,
         ["damaged-cases", number] => return damaged_case(number, output),
         ["random-night", seed, events, ports] => return random(seed, events, ports, output),
+        ["race", rounds, night, program] => return race_with(rounds, night, program, output),
         _ => return Ok(wrong_arguments(USAGE)),
     }
     Ok(ExitCode::SUCCESS)
@@ -141,5 +147,15 @@ fn random(seed: &str, events: &str, ports: &str, output: impl Write) -> io::Resu
         ));
     };
     random_night::print(seed, events, ports, output)?;
+    Ok(ExitCode::SUCCESS)
+}
+
+fn race_with(rounds: &str, night: &str, program: &str, output: impl Write) -> io::Result<ExitCode> {
+    let Ok(rounds) = rounds.parse() else {
+        return Ok(wrong_arguments("second race: expected how many rounds"));
+    };
+    let this = std::env::current_exe()?;
+    let this = this.to_string_lossy();
+    race::race(rounds, night, program, &[&this, "quiet"], output)?;
     Ok(ExitCode::SUCCESS)
 }

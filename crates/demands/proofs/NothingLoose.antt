@@ -44,6 +44,8 @@ use Rattle.sending.proofs.header_bytes.Kinds as header-k
 use Rattle.sending.proofs.header_bytes.Reads as header-c
 use Rattle.sending.proofs.good_crc.Kinds as crc-k
 use Rattle.sending.proofs.good_crc.Reads as crc-c
+use Rattle.message.proofs.byte.Kinds as byte-k
+use Rattle.message.proofs.byte.Reads as byte-c
 
 pub number : Settles 0 number-k.ps number-k.r number-c.Post (λ κs x s. x)
 number κs a x y s t = same
@@ -129,3 +131,6 @@ put-bytes-of-place κs a x y s t p q = ap (λ (l : Line). l .at) (same p q)
 
 pub put-bytes-of-bytes : Settles 2 bytes-k.ps bytes-k.r bytes-c.Post (λ κs x s. now (s .0))
 put-bytes-of-bytes κs a x y s t p q = ap (λ (l : Line). l .text) (same p q)
+
+pub byte : Settles 1 byte-k.ps byte-k.r byte-c.Post (λ κs x s. x)
+byte κs a x y s t = same

@@ -1,3 +1,4 @@
 pub mod Meets
 pub mod Sums
 pub mod Kept
+pub mod NothingLoose

@@ -63,6 +63,26 @@ use Rattle.port.proofs.Port.packet.Kinds as port-packet-k
 use Rattle.port.proofs.Port.packet.Reads as port-packet-c
 use Rattle.port.proofs.Port.new_offer.Kinds as port-new-offer-k
 use Rattle.port.proofs.Port.new_offer.Reads as port-new-offer-c
+use Rattle.source.proofs.code_of.Kinds as source-code-of-k
+use Rattle.source.proofs.code_of.Reads as source-code-of-c
+use Rattle.port.proofs.Port.facts.Kinds as port-facts-k
+use Rattle.port.proofs.Port.facts.Reads as port-facts-c
+use Rattle.port.proofs.Port.runs.Kinds as port-runs-k
+use Rattle.port.proofs.Port.runs.Reads as port-runs-c
+use Rattle.port.proofs.Port.turn.Kinds as port-turn-k
+use Rattle.port.proofs.Port.turn.Reads as port-turn-c
+use Rattle.port.proofs.packets.first_object.Kinds as port-first-object-k
+use Rattle.port.proofs.packets.first_object.Reads as port-first-object-c
+use Rattle.port.proofs.packets.meaning_in.Kinds as port-meaning-in-k
+use Rattle.port.proofs.packets.meaning_in.Reads as port-meaning-in-c
+use Rattle.port.proofs.packets.heard_as.Kinds as port-heard-as-k
+use Rattle.port.proofs.packets.heard_as.Reads as port-heard-as-c
+use Rattle.port.proofs.packets.asked_by.Kinds as port-asked-by-k
+use Rattle.port.proofs.packets.asked_by.Reads as port-asked-by-c
+use Rattle.port.proofs.packets.is_soft_reset.Kinds as port-is-soft-reset-k
+use Rattle.port.proofs.packets.is_soft_reset.Reads as port-is-soft-reset-c
+use Rattle.port.proofs.packets.crc_for.Kinds as port-crc-for-k
+use Rattle.port.proofs.packets.crc_for.Reads as port-crc-for-c
 
 pub offers-voltage : Settles 0 offers-voltage-k.ps offers-voltage-k.r offers-voltage-c.Post (λ κs x s. x)
 offers-voltage κs a x y s t = same
@@ -156,3 +176,33 @@ port-packet κs a x y s t = same
 
 pub port-new-offer : Settles 0 port-new-offer-k.ps port-new-offer-k.r port-new-offer-c.Post (λ κs x s. x)
 port-new-offer κs a x y s t = same
+
+pub source-code-of : Settles 0 source-code-of-k.ps source-code-of-k.r source-code-of-c.Post (λ κs x s. x)
+source-code-of κs a x y s t = same
+
+pub port-facts : Settles 0 port-facts-k.ps port-facts-k.r port-facts-c.Post (λ κs x s. x)
+port-facts κs a x y s t = same
+
+pub port-runs : Settles 0 port-runs-k.ps port-runs-k.r port-runs-c.Post (λ κs x s. x)
+port-runs κs a x y s t = same
+
+pub port-turn : Settles 0 port-turn-k.ps port-turn-k.r port-turn-c.Post (λ κs x s. x)
+port-turn κs a x y s t = same
+
+pub port-first-object : Settles 1 port-first-object-k.ps port-first-object-k.r port-first-object-c.Post (λ κs x s. x)
+port-first-object κs a x y s t = same
+
+pub port-meaning-in : Settles 0 port-meaning-in-k.ps port-meaning-in-k.r port-meaning-in-c.Post (λ κs x s. x)
+port-meaning-in κs a x y s t = same
+
+pub port-heard-as : Settles 0 port-heard-as-k.ps port-heard-as-k.r port-heard-as-c.Post (λ κs x s. x)
+port-heard-as κs a x y s t = same
+
+pub port-asked-by : Settles 0 port-asked-by-k.ps port-asked-by-k.r port-asked-by-c.Post (λ κs x s. x)
+port-asked-by κs a x y s t = same
+
+pub port-is-soft-reset : Settles 0 port-is-soft-reset-k.ps port-is-soft-reset-k.r port-is-soft-reset-c.Post (λ κs x s. x)
+port-is-soft-reset κs a x y s t = same
+
+pub port-crc-for : Settles 0 port-crc-for-k.ps port-crc-for-k.r port-crc-for-c.Post (λ κs x s. x)
+port-crc-for κs a x y s t = same

@@ -1,0 +1,1 @@
+../../replay/src/input.rt

@@ -1,0 +1,89 @@
+// Plays a night from standard input through a rack, and writes what it comes to in counts, and a table. For
+// long nights: docs/NIGHT.md has the file, docs/REPLAY.md what is written.
+mod counts;
+mod ending;
+mod fill;
+mod input;
+mod table;
+
+use input::Input;
+use input::ROOM;
+use libc::STDOUT_FILENO;
+use rack::Rack;
+use tally::Tally;
+
+struct Turn {
+    input: Input,
+    rack: Rack,
+    tally: Tally,
+}
+
+fn begun() -> Turn {
+    let rack = input::no_rack();
+    let tally = tally::new();
+    Turn {
+        input: input::begun(),
+        rack: rack,
+        tally: tally,
+    }
+}
+
+// Reads once, and answers what can be answered of it.
+fn once(buf: &mut [u8; ROOM], t: Turn) -> Turn {
+    let before = t.input;
+    let end = input::read_behind(buf, before.kept);
+    if end == before.kept {
+        let rack = t.rack;
+        let tally = t.tally;
+        return Turn {
+            input: input::ended(before),
+            rack: rack,
+            tally: tally,
+        };
+    }
+    let p = playing::night(t.rack, t.tally, input::part(buf, 0, end));
+    let rack = p.rack;
+    let tally = p.tally;
+    Turn {
+        input: input::after(buf, before, p.at, end),
+        rack: rack,
+        tally: tally,
+    }
+}
+
+// How the night ended, the counts, and the table.
+fn put_end(out: &mut [u8], t: Turn) -> usize {
+    let before = t.input;
+    let e = before.ending;
+    let told = ending::put_ending(out, 0, e, before.place);
+    let counted = counts::put_counts(out, told, t.tally);
+    table::put_table(out, counted, t.rack)
+}
+
+// Writes the first bytes.
+fn say(out: &[u8], n: usize) {
+    if n <= out.len() {
+        io::write_all(STDOUT_FILENO, &out[0..n]);
+    }
+}
+
+fn finish(t: Turn) {
+    let mut out = io::buffer();
+    let n = put_end(&mut out, t);
+    say(&out, n);
+}
+
+// A proved loop has to end, and nothing says that an input does: the turns are counted down from a
+// number that no input uses up.
+fn main() {
+    let mut buf = [0u8; ROOM];
+    let mut t = begun();
+    let mut turns = u64::MAX;
+    let mut more = true;
+    while turns > 0 && more {
+        t = once(&mut buf, t);
+        more = t.input.more;
+        turns -= 1;
+    }
+    finish(t);
+}
