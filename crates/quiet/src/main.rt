@@ -60,7 +60,7 @@ fn put_end(out: &mut [u8], t: Turn) -> usize {
     table::put_table(out, counted, t.rack)
 }
 
-// Writes the first bytes.
+// Writes the first so many bytes.
 fn say(out: &[u8], n: usize) {
     if n <= out.len() {
         io::write_all(STDOUT_FILENO, &out[0..n]);

@@ -1,4 +1,4 @@
-// An answer, as text: its refusal, or its actions.
+// An answer, as a column: its refusal, or its actions.
 use crate::fill::fill;
 use crate::fill::put_word;
 use ground::Verdict;
@@ -15,18 +15,18 @@ fn number_of(v: Verdict) -> u8 {
     }
 }
 
-// No actions, or a refusal in the words of docs/PACKETS.md and docs/STEPS.md. Writing alone refuses by 5 and
-// 6, and no port does.
+// A verdict by its number: no actions, or a refusal in the words of docs/PACKETS.md and docs/STEPS.md. Writing
+// alone refuses by 5 and 6, and no port does.
 pub fn put_verdict(out: &mut [u8], at: usize, v: Verdict) -> usize {
     put_word(
         out,
         at,
-        b"none/refused 1, packet under 2 bytes/refused 2, packet over 30 bytes/refused 3, length is not 2 + 4 x objects, or extended under 4 bytes/refused 4, extended with Chunked clear, or written without object/refused 5/refused 6/refused 7, bad offer/refused 8, the event is not awaited in this state/refused 9, port number not in the rack/refused 10, bad set-up",
+        b" | none/ | refused 1, packet under 2 bytes/ | refused 2, packet over 30 bytes/ | refused 3, length is not 2 + 4 x objects, or extended under 4 bytes/ | refused 4, extended with Chunked clear, or written without object/ | refused 5/ | refused 6/ | refused 7, bad offer/ | refused 8, the event is not awaited in this state/ | refused 9, port number not in the rack/ | refused 10, bad set-up",
         number_of(v),
     )
 }
 
-// The first of some bytes.
+// The first of some bytes; all of them where there are fewer.
 fn first(all: &[u8], count: usize) -> &[u8] {
     if count <= all.len() {
         return &all[0..count];
@@ -57,6 +57,7 @@ fn bit(set: bool) -> u8 {
     if set { 1 } else { 0 }
 }
 
+// Which text a supply has, and the position in it.
 fn supply_number(x: Supply) -> u8 {
     match x {
         Supply::Unchanged => 0,
@@ -117,11 +118,13 @@ fn put_last_three(out: &mut [u8], at: usize, a: Actions) -> usize {
 
 // The actions, without the semicolon behind the last.
 fn put_actions(out: &mut [u8], at: usize, a: Actions) -> usize {
-    let sent = put_first_three(out, at, a);
+    let barred = put_word(out, at, b" | ", 0);
+    let sent = put_first_three(out, barred, a);
     let end = put_last_three(out, sent, a);
-    if end <= at {
-        return text::put(out, at, b"none");
+    if end <= barred {
+        return put_word(out, barred, b"none", 0);
     }
+    // An action and its semicolon are longer than two characters; the test shows that the difference fits.
     if end < 2 {
         return at;
     }

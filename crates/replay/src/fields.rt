@@ -1,15 +1,16 @@
 // The fields of a night, each answered and told in a line.
 use crate::answer::put_answer;
 use crate::answer::put_verdict;
-use crate::event::put_what;
 use crate::fill::fill;
+use crate::fill::put_word;
 use crate::table::put_state;
 use crate::table::put_table;
 use crate::table::state_of;
+use crate::what::put_what;
 use ground::Verdict;
 use libc::STDOUT_FILENO;
 use night::Found;
-use port::Event;
+use port::Actions;
 use rack::PORTS;
 use rack::Rack;
 use rack::RackAnswer;
@@ -33,13 +34,14 @@ const MUCH: usize = 61440;
 
 pub const TEXT: usize = 65536;
 
-// Writes the first bytes.
+// Writes the first so many bytes.
 pub fn say(out: &[u8], n: usize) {
     if n <= out.len() {
         io::write_all(STDOUT_FILENO, &out[0..n]);
     }
 }
 
+// Where the text ends once it is written if there is much of it.
 fn said_if_much(out: &[u8], end: usize) -> usize {
     if end < MUCH {
         return end;
@@ -59,34 +61,28 @@ fn state_in(r: Rack, port: u8) -> u8 {
     16
 }
 
-fn put_back(out: &mut [u8], at: usize, port: u8, a: RackAnswer) -> usize {
-    let verdict = a.verdict;
-    let actions = a.actions;
-    let first = text::put(out, at, b" | ");
-    let answered = put_answer(out, first, verdict, actions);
-    let second = text::put(out, answered, b" | ");
-    let end = put_state(out, second, state_in(a.rack, port));
-    text::put(out, end, b"\n")
+// The answer to an event, and the state of the port afterwards.
+fn put_back(out: &mut [u8], at: usize, v: Verdict, a: Actions, state: u8) -> usize {
+    let answered = put_answer(out, at, v, a);
+    let end = put_state(out, answered, state);
+    put_word(out, end, b"\n", 0)
 }
 
 fn put_set_up(out: &mut [u8], at: usize, u: SetUp, v: Verdict) -> usize {
     let numbers = [u.count as u64, u.supply as u64];
-    let told = fill(out, at, b"set-up | ports # | supply # | ", 0, &numbers);
+    let told = fill(out, at, b"set-up | ports # | supply #", 0, &numbers);
     let end = put_verdict(out, told, v);
-    text::put(out, end, b"\n")
+    put_word(out, end, b"\n", 0)
 }
 
 // Where a set-up is accepted, the table of the rack that it puts away; none where there was no rack.
 fn put_away(out: &mut [u8], at: usize, v: Verdict, r: Rack) -> usize {
-    match v {
-        Verdict::Fine => {
-            if 0 < r.count {
-                return put_table(out, at, r);
-            }
-            at
+    if let Verdict::Fine = v {
+        if 0 < r.count {
+            return put_table(out, at, r);
         }
-        Verdict::Refused(_) => at,
     }
+    at
 }
 
 // The rack that there is once a set-up was tried.
@@ -94,43 +90,6 @@ fn rack_after(v: Verdict, started: Rack, before: Rack) -> Rack {
     match v {
         Verdict::Fine => started,
         Verdict::Refused(_) => before,
-    }
-}
-
-// What a rack answers to an event at a port.
-fn answer(r: Rack, port: u8, found: Found, field: &[u8]) -> RackAnswer {
-    if let Found::Packet(_) = found {
-        return r.packet(port, night::behind(field));
-    }
-    if let Found::NewOffer(_) = found {
-        return r.new_offer(port, night::offer(field));
-    }
-    r.event(port, event_in(found))
-}
-
-// The event that has nothing behind the port's number; any other field does not come here.
-fn event_in(found: Found) -> Event {
-    match found {
-        Found::Cut => Event::Attach,
-        Found::UnknownTag => Event::Attach,
-        Found::WrongLength => Event::Attach,
-        Found::SetUp => Event::Attach,
-        Found::Event(_, e) => e,
-        Found::Packet(_) => Event::Attach,
-        Found::NewOffer(_) => Event::Attach,
-    }
-}
-
-// The port that an event comes to.
-fn port_in(found: Found) -> u8 {
-    match found {
-        Found::Cut => 0,
-        Found::UnknownTag => 0,
-        Found::WrongLength => 0,
-        Found::SetUp => 0,
-        Found::Event(port, _) => port,
-        Found::Packet(port) => port,
-        Found::NewOffer(port) => port,
     }
 }
 
@@ -146,17 +105,43 @@ fn is_event(found: Found) -> bool {
     }
 }
 
+// The number of the port that an event comes to: the first byte behind tag and length.
+fn port_of(field: &[u8]) -> u8 {
+    message::byte(field, 3)
+}
+
+// What a rack answers to an event.
+fn answer(r: Rack, found: Found, field: &[u8]) -> RackAnswer {
+    let port = port_of(field);
+    if let Found::Event(_, e) = found {
+        return r.event(port, e);
+    }
+    if let Found::Packet(_) = found {
+        return r.packet(port, night::behind(field));
+    }
+    r.new_offer(port, night::offer(field))
+}
+
+// The bytes from a place on; none past the end.
+fn rest(s: &[u8], at: usize) -> &[u8] {
+    if at <= s.len() {
+        return &s[at..];
+    }
+    &s[..0]
+}
+
 impl Course {
-    // An event.
-    fn event(mut self, out: &mut [u8], found: Found, field: &[u8]) -> Course {
-        let port = port_in(found);
-        let a = answer(self.rack, port, found, field);
+    // An event and its answer.
+    fn told(mut self, out: &mut [u8], field: &[u8], a: RackAnswer) -> Course {
+        let port = port_of(field);
+        let verdict = a.verdict;
+        let actions = a.actions;
+        let rack = a.rack;
         let events = std::num::wrapping_add_u64(self.events, 1);
         let numbers = [events, port as u64];
         let front = fill(out, self.end, b"# | port # | ", 0, &numbers);
-        let what = put_what(out, front, found, field);
-        let end = put_back(out, what, port, a);
-        let rack = a.rack;
+        let what = put_what(out, front, field);
+        let end = put_back(out, what, verdict, actions, state_in(rack, port));
         self.rack = rack;
         self.events = events;
         self.end = said_if_much(out, end);
@@ -174,44 +159,45 @@ impl Course {
         self
     }
 
-    // What is neither an event nor a set-up that is laid out as it must be is not read.
-    fn field(mut self, out: &mut [u8], field: &[u8]) -> Course {
-        let found = night::next(field);
-        if is_event(found) {
-            return self.event(out, found, field);
-        }
-        if let Found::SetUp = found {
-            let laid = night::set_up(field);
-            let u = laid.set_up;
-            if laid.whole {
-                return self.started(out, u, setup::set_up(u));
-            }
-        }
+    fn unread(mut self) -> Course {
         self.read = false;
         self
+    }
+
+    // A set-up that is not laid out as it must be is not read.
+    fn set_up(self, out: &mut [u8], field: &[u8], after: Course) -> Course {
+        let laid = night::set_up(field);
+        let u = laid.set_up;
+        if laid.whole {
+            return after.started(out, u, setup::set_up(u));
+        }
+        self.unread()
+    }
+
+    // A field that is neither an event nor a set-up is not read; the place then stays before it.
+    fn field(self, out: &mut [u8], field: &[u8]) -> Course {
+        let found = night::next(field);
+        let mut after = self;
+        after.at = std::num::wrapping_add_usize(self.at, night::size(field));
+        if is_event(found) {
+            return after.told(out, field, answer(self.rack, found, field));
+        }
+        if let Found::SetUp = found {
+            return self.set_up(out, field, after);
+        }
+        self.unread()
     }
 }
 
 // Goes through a piece, up to the first field that cannot be read.
 pub fn run(out: &mut [u8], begun: Course, s: &[u8]) -> Course {
     let mut course = begun;
-    let mut at: usize = 0;
     let mut turns = s.len();
-    while 0 < turns {
+    course.at = 0;
+    course.read = true;
+    while 0 < turns && course.read {
         turns -= 1;
-        let field = &s[at..];
-        let n = night::size(field);
-        if field.len() < n {
-            course.at = at;
-            return course;
-        }
-        course = course.field(out, field);
-        if !course.read {
-            course.at = at;
-            return course;
-        }
-        at += n;
+        course = course.field(out, rest(s, course.at));
     }
-    course.at = at;
     course
 }

@@ -1,4 +1,4 @@
-// Texts with numbers in them.
+// Texts with numbers in them: what a line says stands in one list, and is picked by a number.
 
 // Puts a number of up to twenty digits.
 fn put_long(out: &mut [u8], at: usize, n: u64) -> usize {

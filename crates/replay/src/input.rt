@@ -5,7 +5,7 @@ use crate::ending::ending_of;
 use libc::STDIN_FILENO;
 use rack::Rack;
 
-// A piece, and in front of it the longest field but one byte, which is 65,537 bytes.
+// A piece, and in front of it what is kept: at most the longest field but for one byte, 65,537 bytes.
 const PIECE: usize = 65536;
 
 const KEPT: usize = 65600;
@@ -51,7 +51,7 @@ pub fn read_behind(buf: &mut [u8], kept: usize) -> usize {
     kept + io::count(got, buf) % (PIECE + 1)
 }
 
-// Some of the bytes.
+// The bytes from one place to another; none where there is no such part.
 pub fn part(buf: &[u8; ROOM], from: usize, to: usize) -> &[u8] {
     let all: &[u8] = buf;
     if from <= to && to <= all.len() {
@@ -75,7 +75,8 @@ fn keep(buf: &mut [u8; ROOM], at: usize, end: usize) -> usize {
     i
 }
 
-// Of the bytes up to an end, those before a place are answered.
+// How the input stands once the bytes before a place are answered, of those up to an end: what is left is kept
+// for the next piece, unless the night is damaged there.
 pub fn after(buf: &mut [u8; ROOM], before: Input, at: usize, end: usize) -> Input {
     let place = std::num::wrapping_add_u64(before.place, at as u64);
     let e = ending_of(part(buf, at, end));

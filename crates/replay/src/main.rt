@@ -2,11 +2,11 @@
 // end. docs/NIGHT.md has the file, docs/REPLAY.md what is written.
 mod answer;
 mod ending;
-mod event;
 mod fields;
 mod fill;
 mod input;
 mod table;
+mod what;
 
 use fields::Course;
 use fields::TEXT;

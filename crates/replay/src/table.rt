@@ -1,4 +1,5 @@
-// The table of a rack: a row for each port, and what all of them take of the supply.
+// The table of a rack: a row for each port, and what all of them take of the supply. A column that is not the
+// first begins with its bar.
 use crate::fill::fill;
 use crate::fill::put_word;
 use offers::Asked;
@@ -12,7 +13,7 @@ pub fn put_state(out: &mut [u8], at: usize, code: u8) -> usize {
     put_word(
         out,
         at,
-        b"Detached/Offer/Discovery/Disabled/Judge/Accepting/Moving/Telling/Ready/Declining/Refusing/Waiting/Soft/Answering/Hard/Default/-",
+        b" | Detached/ | Offer/ | Discovery/ | Disabled/ | Judge/ | Accepting/ | Moving/ | Telling/ | Ready/ | Declining/ | Refusing/ | Waiting/ | Soft/ | Answering/ | Hard/ | Default/ | -",
         code,
     )
 }
@@ -65,7 +66,7 @@ fn put_row(out: &mut [u8], at: usize, number: u64, r: Row) -> usize {
     let front = [number];
     let back = [r.held, r.share, r.limit];
     let contract = r.contract;
-    let numbered = fill(out, at, b"# | ", 0, &front);
+    let numbered = fill(out, at, b"#", 0, &front);
     let named = put_state(out, numbered, r.state);
     let agreed = put_contract(out, named, contract);
     fill(out, agreed, b" | # | # | #\n", 0, &back)
@@ -85,8 +86,8 @@ fn put_rows(out: &mut [u8], at: usize, r: Rack) -> usize {
 
 // The whole table; of a rack without ports, its first line and its last.
 pub fn put_table(out: &mut [u8], at: usize, r: Rack) -> usize {
+    let sum = [r.load(), r.supply as u64];
     let headed = text::put(out, at, b"port | state | contract | held | share | limit\n");
     let rows = put_rows(out, headed, r);
-    let sum = [r.load(), r.supply as u64];
     fill(out, rows, b"rack | # of #\n", 0, &sum)
 }

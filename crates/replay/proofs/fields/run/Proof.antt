@@ -1,16 +1,15 @@
--- `replay::fields::run` is safe and ends: the place stays within the piece. The measure: the turns that are left.
+-- `replay::fields::run` is safe and ends. The measure: the turns that are left.
 use borrow.Author.Needs.{needs}
-use Prim.Native.Nat.{_≤_}
 use mathlib.Core.Path.{_≡_}
 use lib.ListN.{length}
 use Rattle.replay.proofs.fields.run.Statement.{statement}
 use Rattle.replay.proofs.fields.run.Tie as tie
 
 abbrev Inv-loop : tie.InvT-loop
-Inv-loop out₀ s course₀ at₀ turns₀ out course at turns = (length out ≡ length out₀) × (at ≤ length s)
+Inv-loop out₀ s course₀ turns₀ out course turns = length out ≡ length out₀
 
 abbrev μ-loop : tie.MeasureT-loop
-μ-loop out₀ s course₀ at₀ turns₀ out course at turns = turns
+μ-loop out₀ s course₀ turns₀ out course turns = turns
 
 pub run-spec : {M : Type 1} → statement M
 run-spec =
@@ -20,14 +19,8 @@ run-spec =
     μ-loop
     (λ c. search needs)
     (λ c. search needs)
-    (λ c. search needs)
-    (λ c. search needs)
-    (λ c. search needs)
-    (λ c κs. search needs)
-    (λ c. search needs)
-    (λ c. search needs)
-    (λ c κs. search needs)
-    (λ c. search needs)
+    (λ c κs. tt)
+    (λ c κs. tt)
     (λ c. search needs)
     (λ c. search needs)
     (λ c. search needs)
