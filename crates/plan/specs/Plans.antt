@@ -20,9 +20,10 @@ use Rattle.outgoing.specs.declared.Packet.{Packet}
 use Rattle.channel.specs.declared.Channel.{Channel}
 use Rattle.channel.specs.declared.Outcome.{Outcome}
 use Rattle.channel.specs.declared.Outcome.the-variants.{NonePending, Acknowledged, Again, Failed}
-use Rattle.channel.specs.Channel.{isRepeat, again}
+use Rattle.channel.specs.Channel.{fresh, isRepeat, ended, again, heard}
 use Rattle.channel.specs.Outcomes.{onExpiry, onGoodCrc}
 use Rattle.power.specs.declared.Change.{Change}
+use Rattle.power.specs.declared.Power.{Power}
 use Rattle.power.specs.Power.{nothingAsked, judges}
 use Rattle.source.specs.declared.State.{State}
 use Rattle.source.specs.declared.Stimulus.{Stimulus}
@@ -177,6 +178,35 @@ after Prior.Replaced o p = replaced p o
 abbrev pub judging : Bool → Asked → Port → Port
 judging true a p = power-is (judges (p .power) a) p
 judging false a p = p
+
+-- the same, part by part
+abbrev pub base : Prior → Offer → Port → Port
+base Prior.Nothing o p = p
+base Prior.Cleared o p = cleared p
+base Prior.Ended o p = p
+base Prior.Again o p = p
+base (Prior.Heard id soft) o p = p
+base Prior.Replaced o p = replaced p o
+
+abbrev pub channelAfter : Prior → Channel → Channel
+channelAfter Prior.Nothing c = c
+channelAfter Prior.Cleared c = fresh
+channelAfter Prior.Ended c = ended c
+channelAfter Prior.Again c = again c
+channelAfter (Prior.Heard id soft) c = heard c id soft
+channelAfter Prior.Replaced c = c
+
+abbrev pub isHeard : Prior → Bool
+isHeard Prior.Nothing = false
+isHeard Prior.Cleared = false
+isHeard Prior.Ended = false
+isHeard Prior.Again = false
+isHeard (Prior.Heard id soft) = true
+isHeard Prior.Replaced = false
+
+abbrev pub powerJudging : Bool → Asked → Power → Power
+powerJudging true a w = judges w a
+powerJudging false a w = w
 
 abbrev pub transmits : Packet → Answer → Answer
 transmits m a =

@@ -1,10 +1,8 @@
 // What is decided is done.
 ghost use mathlib.Core.Path.{_≡_};
 ghost use Rattle.port.specs.Memory.{refusedBy};
-ghost use Rattle.port.specs.Parts.{channel-is};
-ghost use Rattle.port.specs.Packets.{hearing};
 ghost use Rattle.port.specs.Steps.{replaced};
-ghost use Rattle.plan.specs.Plans.{after, judging, transmits, resends, performed, donePlan};
+ghost use Rattle.plan.specs.Plans.{after, judging, base, channelAfter, isHeard, powerJudging, transmits, resends, performed, donePlan};
 use crate::Plan;
 use crate::Prior;
 use crate::meeting::NO_CRC;
@@ -19,31 +17,13 @@ use port::Answer;
 use port::Port;
 use port::Supply;
 use power::Change;
+use power::Power;
 use source::Timer;
 
 const NO_PACKET: Packet = Packet {
     bytes: [0u8; 30],
     length: 0,
 };
-
-fn with_channel(p: Port, c: Channel) -> Port
-    ensures { λ r. ⌜ r ≡ channel-is c p ⌝ }
-{
-    let mut q = p;
-    q.channel = c;
-    q
-}
-
-fn hearing(p: Port, id: u8, soft: bool) -> Port
-    ensures { λ r. ⌜ r ≡ hearing p id soft ⌝ }
-{
-    let c = p.channel;
-    let channel = c.heard(id, soft);
-    let mut q = p;
-    q.channel = channel;
-    q.connected = true;
-    q
-}
 
 fn replaced(p: Port, o: Offer) -> Port
     ensures { λ r. ⌜ r ≡ replaced p o ⌝ }
@@ -54,34 +34,71 @@ fn replaced(p: Port, o: Offer) -> Port
     q
 }
 
-// The port as the protocol rules leave it, or with its new offer.
-fn after(x: Prior, o: Offer, p: Port) -> Port
-    ensures { λ r. ⌜ r ≡ after x o p ⌝ }
+// The port that goes on, its channel aside: as it was, cleared, or with its new offer.
+fn base(x: Prior, o: Offer, p: Port) -> Port
+    ensures { λ r. ⌜ r ≡ base x o p ⌝ }
 {
-    let c = p.channel;
     let newest = p.newest;
     match x {
         Prior::Nothing => p,
         Prior::Cleared => Port::new(newest),
-        Prior::Ended => with_channel(p, c.ended()),
-        Prior::Again => with_channel(p, c.again()),
-        Prior::Heard(id, soft) => hearing(p, id, soft),
+        Prior::Ended => p,
+        Prior::Again => p,
+        Prior::Heard(_, _) => p,
         Prior::Replaced => replaced(p, o),
     }
 }
 
-// The port with the Request that is judged.
-fn judging(asks: bool, a: Asked, p: Port) -> Port
-    ensures { λ r. ⌜ r ≡ judging asks a p ⌝ }
+// Its channel, as the protocol rules leave it.
+fn channel_after(x: Prior, c: Channel) -> Channel
+    ensures { λ r. ⌜ r ≡ channelAfter x c ⌝ }
+{
+    match x {
+        Prior::Nothing => c,
+        Prior::Cleared => channel::new(),
+        Prior::Ended => c.ended(),
+        Prior::Again => c.again(),
+        Prior::Heard(id, soft) => c.heard(id, soft),
+        Prior::Replaced => c,
+    }
+}
+
+fn is_heard(x: Prior) -> bool
+    ensures { λ r. ⌜ r ≡ isHeard x ⌝ }
+{
+    match x {
+        Prior::Nothing => false,
+        Prior::Cleared => false,
+        Prior::Ended => false,
+        Prior::Again => false,
+        Prior::Heard(_, _) => true,
+        Prior::Replaced => false,
+    }
+}
+
+// Its power, with the Request that is judged.
+fn power_judging(asks: bool, a: Asked, w: Power) -> Power
+    ensures { λ r. ⌜ r ≡ powerJudging asks a w ⌝ }
 {
     if asks {
-        let w = p.power;
-        let power = w.judges(a);
-        let mut q = p;
-        q.power = power;
-        return q;
+        return w.judges(a);
     }
-    p
+    w
+}
+
+// The port before it goes where the rules lead. Its parts are made one by one: a port that is handed from
+// call to call is copied at each.
+fn ready(x: Prior, asks: bool, a: Asked, o: Offer, p: Port) -> Port
+    ensures { λ r. ⌜ r ≡ judging asks a (after x o p) ⌝ }
+{
+    let channel = channel_after(x, p.channel);
+    let mut q = base(x, o, p);
+    let power = power_judging(asks, a, q.power);
+    let heard = is_heard(x);
+    q.channel = channel;
+    q.power = power;
+    q.connected = heard | q.connected;
+    q
 }
 
 fn transmits(m: Packet, a: Answer) -> Answer
@@ -136,7 +153,7 @@ fn performed(p: Port, o: Offer, x: Plan) -> Answer
     let way = x.way;
     let asked = x.asked;
     let pending = p.channel.pending.packet;
-    let q = judging(x.asks, asked, after(prior, o, p));
+    let q = ready(prior, x.asks, asked, o, p);
     resends(prior, pending, q.turn(s, crc, runs, change, way, asked))
 }
 

@@ -20,7 +20,6 @@ use outgoing::Packet;
 use port::Actions;
 use port::Answer;
 use port::GoodCrc;
-use port::Port;
 use port::Supply;
 use rack::PORTS;
 use rack::Rack;
@@ -68,15 +67,13 @@ fn nobody(t: Tally, number: u8) -> Tally
     )
 }
 
-// The answer of the port that an event came to.
-fn answered(t: Tally, number: u8, before: Port, a: Answer) -> Tally
-    ensures { λ r. ⌜ r ≡ told t number (a .verdict) (a .actions) (stateOf before) (stateOf (a .port)) (a .port .power .held) ⌝ }
+// The answer of the port that an event came to, which was in a state before.
+fn answered(t: Tally, number: u8, was: State, a: Answer) -> Tally
+    ensures { λ r. ⌜ r ≡ told t number (a .verdict) (a .actions) was (stateOf (a .port)) (a .port .power .held) ⌝ }
 {
     let q = a.port;
-    let earlier = before.phase;
-    let later = q.phase;
-    let was = earlier.state;
-    let is = later.state;
+    let phase = q.phase;
+    let is = phase.state;
     let v = a.verdict;
     let actions = a.actions;
     t.told(number, v, actions, was, is, q.power.held)
@@ -151,7 +148,8 @@ pub fn night(r: Rack, t: Tally, s: &[u8]) -> Played
             if is_in(count, number) {
                 let i = (number - 1) as usize;
                 let t = slots[i];
-                let p = t.port;
+                let phase = t.port.phase;
+                let state = phase.state;
                 let was = t.load();
                 let a = fields::stepped(t, found, f, total - was as u64, supply);
                 let q = a.port;
@@ -162,7 +160,7 @@ pub fn night(r: Rack, t: Tally, s: &[u8]) -> Played
                 };
                 slots[i] = u;
                 total = moved(total, was, u.load());
-                tally = answered(tally, number, p, a);
+                tally = answered(tally, number, state, a);
                 continue;
             }
             tally = nobody(tally, number);

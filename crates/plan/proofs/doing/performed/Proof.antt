@@ -12,5 +12,4 @@ performed-spec =
     (λ c κs. search needs)
     (λ c κs. search needs)
     (λ c κs. search needs)
-    (λ c κs. search needs)
-    (λ c. c .resends .ensures ∙ rw (c .before .turn .ensures, c .before .before .judging .ensures, c .before .before .before .after .ensures)))
+    (λ c. c .resends .ensures ∙ rw (c .before .turn .ensures, c .before .before .ready .ensures)))
