@@ -39,32 +39,11 @@ fn put_yes(out: &mut [u8], at: usize, name: &[u8], yes: bool) -> usize {
     text::put(out, named, b"no")
 }
 
-fn state_number(s: State) -> u8 {
-    match s {
-        State::Detached => 0,
-        State::Offer => 1,
-        State::Discovery => 2,
-        State::Disabled => 3,
-        State::Judge => 4,
-        State::Accepting => 5,
-        State::Moving => 6,
-        State::Telling => 7,
-        State::Ready => 8,
-        State::Declining => 9,
-        State::Refusing => 10,
-        State::Waiting => 11,
-        State::Soft => 12,
-        State::Answering => 13,
-        State::Hard => 14,
-        State::Default => 15,
-    }
-}
-
 fn put_state(out: &mut [u8], at: usize, s: State) -> usize {
     let words = b"\
         Detached|Offer|Discovery|Disabled|Judge|Accepting|Moving|Telling\
         |Ready|Declining|Refusing|Waiting|Soft|Answering|Hard|Default";
-    text::put(out, at, word(words, state_number(s)))
+    text::put(out, at, word(words, source::code_of(s)))
 }
 
 fn put_stored(out: &mut [u8], at: usize, s: Stored) -> usize {
