@@ -8,7 +8,7 @@ use lib.ListN.{drop}
 use Rattle.portclaims.proofs.Truth.{true-not-false}
 use Rattle.rack.specs.declared.Rack.{Rack}
 use Rattle.rack.specs.Steps.{step}
-use Rattle.rack.specs.Runs.{Happens, run}
+use Rattle.rack.specs.Runs.{Happens, runBy, run}
 use Rattle.night.specs.declared.Found.{Found}
 use Rattle.night.specs.Fields.{sizeOf}
 use Rattle.night.specs.Events.{nextOf}
@@ -38,7 +38,7 @@ module _ (p q : Played) (l : List ℕ) (es : List Happens) (more : Bool) where
   by-field : (found : Found) → (isEvent found ≡ true → more ≡ true → q .rack ≡ run (step (p .rack) (numberIn found) (happeningIn found l) .rack) es) →
       cond (isReadable found l) (not (isSetUp found) && more) true ≡ true →
       cond (isReadable found l) q p .rack ≡ run (p .rack) (cond (isEvent found) (happensBy found l ∷ es) [])
-  unfolding run
+  unfolding runBy
   by-field Found.Cut rest h = refl
   by-field Found.UnknownTag rest h = refl
   by-field Found.WrongLength rest h = refl
@@ -49,7 +49,7 @@ module _ (p q : Played) (l : List ℕ) (es : List Happens) (more : Bool) where
 
 -- THE CLAIM
 pub event-by-event : (n : ℕ) (p : Played) (l : List ℕ) → noSetUpIn n l ≡ true → nightIn n p l .rack ≡ run (p .rack) (happenedIn n l)
-unfolding nightIn happenedIn noSetUpIn run
+unfolding nightIn happenedIn noSetUpIn runBy
 event-by-event zero p l h = refl
 event-by-event (suc n) p l h =
     by-field p (nightIn n (fieldDone (nextOf l) p l) (drop (sizeOf l) l)) l (happenedIn n (drop (sizeOf l) l)) (noSetUpIn n (drop (sizeOf l) l)) (nextOf l)

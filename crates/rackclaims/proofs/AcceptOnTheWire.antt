@@ -48,7 +48,7 @@ use Rattle.rack.specs.Steps.{packet, answerAt}
 use Rattle.setup.specs.declared.SetUp.{SetUp}
 use Rattle.setup.specs.SetUps.{goodSetUp}
 use Rattle.rackclaims.specs.Wire.{isAccept}
-use Rattle.rackclaims.proofs.WireOffers.{type-packed, header-on-wire}
+use Rattle.rackclaims.proofs.WireOffers.{plain-packed, type-packed, header-on-wire}
 use Rattle.rackclaims.proofs.OwnSteps.{at-no}
 use Rattle.rackclaims.proofs.Settling.{Settles, by-itself, granted, denied, settles}
 use Rattle.rackclaims.proofs.Reached.{Reached}
@@ -61,13 +61,14 @@ nothing-is-none = refl
 
 -- a control message of ours, by its type
 control-by-type : (type id : ℕ) → isAccept (onWire (controlOf type id)) ≡ eqb (type % 32) Types.Accept
-unfolding isAccept controlOf
+unfolding isAccept controlOf fieldsOf
 control-by-type type id =
-    rw (word-of-two (headerOf (ourFields type id) 0) [], type-packed (ourFields type id) 0, objects-packed (ourFields type id) 0) (and-true (eqb (type % 32) Types.Accept))
+    rw (word-of-two (headerOf (ourFields type id) 0) [], plain-packed type id 0, type-packed (ourFields type id) 0, objects-packed (ourFields type id) 0) (and-true (eqb (type % 32) Types.Accept))
 
 offer-is-none : (id count : ℕ) (objects : List ℕ) → isAccept (onWire (dataOf Types.SourceCapabilities id objects count)) ≡ false
 unfolding isAccept
-offer-is-none id count objects = rw (header-on-wire Types.SourceCapabilities id objects count, type-packed (ourFields Types.SourceCapabilities id) count) refl
+offer-is-none id count objects =
+    rw (header-on-wire Types.SourceCapabilities id objects count, type-packed (ourFields Types.SourceCapabilities id) count) refl
 
 -- ---- on which ways an Accept goes out
 abbrev withAccept : Way → Bool

@@ -28,11 +28,11 @@ use Rattle.slot.specs.Answers.{judged, settled}
 use Rattle.rack.specs.declared.Rack.{Rack}
 use Rattle.rack.specs.Ports.{at, others}
 use Rattle.rack.specs.Steps.{Happening, packet, callOf, answerAt, step}
-use Rattle.rack.specs.Runs.{Happens, run}
+use Rattle.rack.specs.Runs.{Happens, runBy, run}
 use Rattle.setup.specs.declared.SetUp.{SetUp}
 use Rattle.setup.specs.SetUps.{setting, goodSetUp, rackOf}
 use Rattle.rackclaims.specs.Wire.{lastOffer, worthOn}
-use Rattle.rackclaims.specs.History.{entryOf, history, Known, nothingYet, askedBy, acceptedAfter, after, noted, knownAfter, heldBy}
+use Rattle.rackclaims.specs.History.{entryOf, historyBy, history, Known, nothingYet, askedBy, acceptedAfter, after, noted, knownAfter, heldBy}
 use Rattle.rackclaims.proofs.OwnSteps.{inHand, isAccepted, isInForce, own, at-yes, at-no}
 use Rattle.rackclaims.proofs.Settling.{asks, asked-is, Settles, by-itself, granted, denied, settles, Steady}
 use Rattle.rackclaims.proofs.WireOffers.{nothing-sent}
@@ -156,7 +156,7 @@ module _ (u : SetUp) (good : goodSetUp u ≡ true) (i : ℕ) (here : i < u .coun
     agrees-step e = by-test e (eqb (e .number) (suc i)) refl
 
   agrees-run : (es : List Happens) (r : Rack) (x : Known) → Reached u r → Agrees (at r i .port) x → Agrees (at (run r es) i .port) (knownAfter (suc i) x (history r es))
-  unfolding run history
+  unfolding runBy historyBy
   agrees-run [] r x k g = g
   agrees-run (e ∷ es) r x k g = agrees-run es (step r (e .number) (e .happening) .rack) _ (step-reached u good r k (e .number) (e .happening)) (agrees-step r k x g e)
 

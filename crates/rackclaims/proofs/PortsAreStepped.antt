@@ -49,7 +49,7 @@ module _ (u : SetUp) (good : goodSetUp u ≡ true) (i : ℕ) (here : i < u .coun
         (rw (comes-to-it u good r k i here h) (subst (λ s. Leads p (s .port)) (sym (at-its-place u good r k i here (Rack.answerAt r i h .port))) (answer p r i h l)))
 
   stepped : (es : List Runs.Happens) (r : Rack) → Reached u r → Leads p (at r i .port) → Leads p (at (Runs.run r es) i .port)
-  unfolding Runs.run
+  unfolding Runs.runBy
   stepped [] r k l = l
   stepped (e ∷ es) r k l =
       stepped es (Rack.step r (e .number) (e .happening) .rack) (step-reached u good r k (e .number) (e .happening)) (by-test r k l (e .number) (e .happening) (eqb (e .number) (suc i)) refl)

@@ -22,7 +22,7 @@ use Rattle.port.specs.Calls as Port
 use Rattle.rack.specs.declared.Rack.{Rack}
 use Rattle.rack.specs.Ports.{nobody, at, portsIn, inRack, placeOf, total, loads, others, put}
 use Rattle.rack.specs.Steps.{Happening, callOf, answerAt, turned, ifInRack, step}
-use Rattle.rack.specs.Runs.{Happens, run}
+use Rattle.rack.specs.Runs.{Happens, runBy, run}
 use Rattle.rack.proofs.Totals.{total-change}
 use Rattle.rack.proofs.Loads.{others-and-this, from-one, place-in}
 use Rattle.setup.specs.declared.SetUp.{SetUp}
@@ -181,7 +181,7 @@ module _ (u : SetUp) (good : goodSetUp u ≡ true) where
     step-reached number h = by-number number h (inRack r number) refl
 
   pub run-reached : (es : List Happens) (r : Rack) → Reached u r → Reached u (run r es)
-  unfolding run
+  unfolding runBy
   run-reached [] r k = k
   run-reached (e ∷ es) r k = run-reached es (step r (e .number) (e .happening) .rack) (step-reached r k (e .number) (e .happening))
 

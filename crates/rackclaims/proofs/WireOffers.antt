@@ -5,6 +5,7 @@ use native.Mathlib.Omega.{arith}
 use mathlib.Core.Path.{_≡_, refl, sym, ap, _∙_}
 use mathlib.Core.Bool.{true, false, and-false}
 use mathlib.Core.List.{List, [], _++_}
+use lib.Dec.{eqb}
 use lib.ListN.{take, drop, getD}
 use lib.Seq.{getD-take, getD-drop, drop-drop}
 use borrow.Author.Tests.{lt-ltb}
@@ -22,6 +23,15 @@ use Rattle.port.specs.Packets.{firstObject}
 use Rattle.portclaims.proofs.ObjectsReadBack.{object-reads-back}
 use Rattle.rackclaims.specs.Wire.{isOffer, lastOffer, objectOn}
 
+-- ---- the Extended bit of a header, its highest, is clear in ours
+highest : (o i p r d t : ℕ) → o < 8 → i < 8 → p < 2 → r < 4 → d < 2 → t < 32 → (0 * 32768 + o * 4096 + i * 512 + p * 256 + r * 64 + d * 32 + t * 1) / 32768 % 2 ≡ 0
+highest o i p r d t o< i< p< r< d< t< = omega arith
+
+pub plain-packed : (type id n : ℕ) → fieldsOf (headerOf (ourFields type id) n) .extended ≡ false
+unfolding fieldsOf headerOf
+plain-packed type id n =
+    ap (λ (x : ℕ). eqb x 1) (highest (n % 8) (id % 8) 1 2 1 (type % 32) (omega arith) (omega arith) (omega arith) (omega arith) (omega arith) (omega arith))
+
 -- ---- what is no offer
 pub no-offer : isOffer [] ≡ false
 unfolding isOffer wordOf fieldsOf
@@ -32,8 +42,8 @@ nothing-sent y = rw no-offer
 
 -- a control message's header names no objects
 pub control-no-offer : (type id : ℕ) → isOffer (onWire (controlOf type id)) ≡ false
-unfolding isOffer controlOf
-control-no-offer type id = rw (word-of-two (headerOf (ourFields type id) 0) [], objects-packed (ourFields type id) 0, and-false)
+unfolding isOffer controlOf fieldsOf
+control-no-offer type id = rw (word-of-two (headerOf (ourFields type id) 0) [], plain-packed type id 0, objects-packed (ourFields type id) 0, and-false)
 
 pub control-sent : (type id : ℕ) (y : List ℕ) → lastOffer (controlOf type id) y ≡ y
 control-sent type id y = rw (control-no-offer type id)
@@ -65,10 +75,10 @@ header-on-wire type id objects count = word-left (2 + 4 * (count % 8)) 0 _ (omeg
 
 -- THE CLAIM: a Source_Capabilities with one to seven objects is an offer
 pub offer-is-one : (id count : ℕ) (objects : List ℕ) → 1 ≤ count → count ≤ 7 → isOffer (onWire (dataOf Types.SourceCapabilities id objects count)) ≡ true
-unfolding isOffer
+unfolding isOffer fieldsOf
 offer-is-one id count objects some few =
-    rw (header-on-wire Types.SourceCapabilities id objects count, type-packed (ourFields Types.SourceCapabilities id) count, objects-packed (ourFields Types.SourceCapabilities id) count)
-    (lt-ltb 0 (count % 8) (omega arith))
+    rw (header-on-wire Types.SourceCapabilities id objects count, plain-packed Types.SourceCapabilities id count, type-packed (ourFields Types.SourceCapabilities id) count, objects-packed (ourFields Types.SourceCapabilities id) count, lt-ltb 0 (count % 8) (omega arith))
+    refl
 
 -- ---- its objects
 -- four bytes keep an object's low 32 bits, and the voltage lies in those

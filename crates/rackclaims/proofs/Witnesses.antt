@@ -40,10 +40,10 @@ use Rattle.slot.specs.Answers.{hasAsked, judged, settled}
 use Rattle.rack.specs.declared.Rack.{Rack}
 use Rattle.rack.specs.Ports.{at, portsIn, others, powerRule}
 use Rattle.rack.specs.Steps.{Happening, event, packet, ownAnswer, answerAt, step}
-use Rattle.rack.specs.Runs.{Happens, run}
+use Rattle.rack.specs.Runs.{Happens, runBy, run}
 use Rattle.setup.specs.SetUps.{goodSetting, goodSetUp, setUp}
 use Rattle.rackclaims.specs.Wire.{isOffer}
-use Rattle.rackclaims.specs.History.{history, heldBy}
+use Rattle.rackclaims.specs.History.{historyBy, history, heldBy}
 use Rattle.rackclaims.specs.NightDesk as Desk
 use Rattle.rackclaims.proofs.Settling.{asks}
 use Rattle.rackclaims.proofs.Neighbours.{others-stay}
@@ -76,7 +76,7 @@ pub held-that-night :
     × (heldBy 2 (history (setUp Desk.nightDesk .rack) night) ≡ 54000)
     × (heldBy 3 (history (setUp Desk.nightDesk .rack) night) ≡ 36000)
     × (heldBy 4 (history (setUp Desk.nightDesk .rack) night) ≡ 0)
-unfolding Desk.rackAfter run history heldBy step answerAt settled judged approves powerRule others setUp goodSetUp goodSetting goodOffer goodFrom goodObject objectAt isOffer Port.step eventOf packetOf readOf readingTried refuseIf wordOf fieldsOf objectsOf partOf isChunked messageOf meaningIn meaningOf byMeaning otherPacket newPacket goodCrcHeard byOutcome onGoodCrc onExpiry pendingId isRepeat acknowledged failed resent nothingDone happens leads onPacket changeOf heardAs firstObject fitOf fits asked turn enter changed standingOf isHonoured ended again heard sends controlOf dataOf headerOf bytesOf newOfferOf
+unfolding Desk.rackAfter runBy historyBy heldBy step answerAt settled judged approves powerRule others setUp goodSetUp goodSetting goodOffer goodFrom goodObject objectAt isOffer Port.step eventOf packetOf readOf readingTried refuseIf wordOf fieldsOf objectsOf partOf isChunked messageOf meaningIn meaningOf byMeaning otherPacket newPacket goodCrcHeard byOutcome onGoodCrc onExpiry pendingId isRepeat acknowledged failed resent nothingDone happens leads onPacket changeOf heardAs firstObject fitOf fits asked turn enter changed standingOf isHonoured ended again heard sends controlOf dataOf headerOf bytesOf newOfferOf
 held-that-night = (refl, refl, refl, refl)
 
 -- AcceptExactly: port 3's Requests fit; the rule approves 36,000 and not 36,180; 30,000 is no more than its share
@@ -87,7 +87,7 @@ pub requests :
     × (powerRule desk 2 (asks (at desk 2 .port) Desk.for36180) ≡ false)
     × FittingRequest (at desk 2 .port) Desk.for30000
     × (asks (at desk 2 .port) Desk.for30000 ≡ 30000)
-unfolding Desk.rackAfter run history heldBy step answerAt settled judged approves powerRule others setUp goodSetUp goodSetting goodOffer goodFrom goodObject objectAt isOffer Port.step eventOf packetOf readOf readingTried refuseIf wordOf fieldsOf objectsOf partOf isChunked messageOf meaningIn meaningOf byMeaning otherPacket newPacket goodCrcHeard byOutcome onGoodCrc onExpiry pendingId isRepeat acknowledged failed resent nothingDone happens leads onPacket changeOf heardAs firstObject fitOf fits asked turn enter changed standingOf isHonoured ended again heard sends controlOf dataOf headerOf bytesOf newOfferOf
+unfolding Desk.rackAfter runBy historyBy heldBy step answerAt settled judged approves powerRule others setUp goodSetUp goodSetting goodOffer goodFrom goodObject objectAt isOffer Port.step eventOf packetOf readOf readingTried refuseIf wordOf fieldsOf objectsOf partOf isChunked messageOf meaningIn meaningOf byMeaning otherPacket newPacket goodCrcHeard byOutcome onGoodCrc onExpiry pendingId isRepeat acknowledged failed resent nothingDone happens leads onPacket changeOf heardAs firstObject fitOf fits asked turn enter changed standingOf isHonoured ended again heard sends controlOf dataOf headerOf bytesOf newOfferOf
 requests = (
   record {
     objects = 1;
@@ -120,12 +120,12 @@ pub answers :
     (answerAt desk 2 (packet Desk.for36000) .held ≡ Change.Accepted)
     × (hasAsked (at desk 2 .port) (ownAnswer desk 2 (packet Desk.for36000) .port) ≡ true)
     × (hasAsked (at desk 2 .port) (ownAnswer desk 2 (event Event.Detach) .port) ≡ false)
-unfolding Desk.rackAfter run history heldBy step answerAt settled judged approves powerRule others setUp goodSetUp goodSetting goodOffer goodFrom goodObject objectAt isOffer Port.step eventOf packetOf readOf readingTried refuseIf wordOf fieldsOf objectsOf partOf isChunked messageOf meaningIn meaningOf byMeaning otherPacket newPacket goodCrcHeard byOutcome onGoodCrc onExpiry pendingId isRepeat acknowledged failed resent nothingDone happens leads onPacket changeOf heardAs firstObject fitOf fits asked turn enter changed standingOf isHonoured ended again heard sends controlOf dataOf headerOf bytesOf newOfferOf
+unfolding Desk.rackAfter runBy historyBy heldBy step answerAt settled judged approves powerRule others setUp goodSetUp goodSetting goodOffer goodFrom goodObject objectAt isOffer Port.step eventOf packetOf readOf readingTried refuseIf wordOf fieldsOf objectsOf partOf isChunked messageOf meaningIn meaningOf byMeaning otherPacket newPacket goodCrcHeard byOutcome onGoodCrc onExpiry pendingId isRepeat acknowledged failed resent nothingDone happens leads onPacket changeOf heardAs firstObject fitOf fits asked turn enter changed standingOf isHonoured ended again heard sends controlOf dataOf headerOf bytesOf newOfferOf
 answers = (refl, refl, refl)
 
 -- RefusedChangesNothing: a port that is not there, and an event that is not awaited
 pub refusals : (step desk 5 (event Event.Detach) .verdict ≡ Refused NotInRack) × (step desk 0 (event Event.Detach) .verdict ≡ Refused NotInRack) × (step desk 3 (event Event.Attach) .verdict ≡ Refused NotAwaited)
-unfolding Desk.rackAfter run history heldBy step answerAt settled judged approves powerRule others setUp goodSetUp goodSetting goodOffer goodFrom goodObject objectAt isOffer Port.step eventOf packetOf readOf readingTried refuseIf wordOf fieldsOf objectsOf partOf isChunked messageOf meaningIn meaningOf byMeaning otherPacket newPacket goodCrcHeard byOutcome onGoodCrc onExpiry pendingId isRepeat acknowledged failed resent nothingDone happens leads onPacket changeOf heardAs firstObject fitOf fits asked turn enter changed standingOf isHonoured ended again heard sends controlOf dataOf headerOf bytesOf newOfferOf
+unfolding Desk.rackAfter runBy historyBy heldBy step answerAt settled judged approves powerRule others setUp goodSetUp goodSetting goodOffer goodFrom goodObject objectAt isOffer Port.step eventOf packetOf readOf readingTried refuseIf wordOf fieldsOf objectsOf partOf isChunked messageOf meaningIn meaningOf byMeaning otherPacket newPacket goodCrcHeard byOutcome onGoodCrc onExpiry pendingId isRepeat acknowledged failed resent nothingDone happens leads onPacket changeOf heardAs firstObject fitOf fits asked turn enter changed standingOf isHonoured ended again heard sends controlOf dataOf headerOf bytesOf newOfferOf
 refusals = (refl, refl, refl)
 
 -- RepeatChangesNothing: port 2's Request again, while it is Accepting
@@ -134,7 +134,7 @@ pub a-repeat :
     × (readOf Desk.for54000 ≡ Reading.Message 1 asksOnce)
     × (isRepeat (at desk 1 .port .channel) 0 ≡ true)
     × (aside (meaningIn 1 asksOnce) ≡ false)
-unfolding Desk.rackAfter run history heldBy step answerAt settled judged approves powerRule others setUp goodSetUp goodSetting goodOffer goodFrom goodObject objectAt isOffer Port.step eventOf packetOf readOf readingTried refuseIf wordOf fieldsOf objectsOf partOf isChunked messageOf meaningIn meaningOf byMeaning otherPacket newPacket goodCrcHeard byOutcome onGoodCrc onExpiry pendingId isRepeat acknowledged failed resent nothingDone happens leads onPacket changeOf heardAs firstObject fitOf fits asked turn enter changed standingOf isHonoured ended again heard sends controlOf dataOf headerOf bytesOf newOfferOf
+unfolding Desk.rackAfter runBy historyBy heldBy step answerAt settled judged approves powerRule others setUp goodSetUp goodSetting goodOffer goodFrom goodObject objectAt isOffer Port.step eventOf packetOf readOf readingTried refuseIf wordOf fieldsOf objectsOf partOf isChunked messageOf meaningIn meaningOf byMeaning otherPacket newPacket goodCrcHeard byOutcome onGoodCrc onExpiry pendingId isRepeat acknowledged failed resent nothingDone happens leads onPacket changeOf heardAs firstObject fitOf fits asked turn enter changed standingOf isHonoured ended again heard sends controlOf dataOf headerOf bytesOf newOfferOf
 a-repeat = (refl, refl, refl, refl)
 
 -- Neighbours: the same rack but for a receiver that is attached to port 4: its memory is another, and every port takes the load that it took
@@ -142,11 +142,11 @@ abbrev beside : Rack
 beside = step desk 4 (event Event.Attach) .rack
 
 pub another-neighbour : (stateOf (at desk 3 .port) ≡ State.Detached) × (stateOf (at beside 3 .port) ≡ State.Offer) × (beside .supply ≡ desk .supply) × (portsIn desk ≡ portsIn beside) × (at desk 2 ≡ at beside 2)
-unfolding Desk.rackAfter run history heldBy step answerAt settled judged approves powerRule others setUp goodSetUp goodSetting goodOffer goodFrom goodObject objectAt isOffer Port.step eventOf packetOf readOf readingTried refuseIf wordOf fieldsOf objectsOf partOf isChunked messageOf meaningIn meaningOf byMeaning otherPacket newPacket goodCrcHeard byOutcome onGoodCrc onExpiry pendingId isRepeat acknowledged failed resent nothingDone happens leads onPacket changeOf heardAs firstObject fitOf fits asked turn enter changed standingOf isHonoured ended again heard sends controlOf dataOf headerOf bytesOf newOfferOf
+unfolding Desk.rackAfter runBy historyBy heldBy step answerAt settled judged approves powerRule others setUp goodSetUp goodSetting goodOffer goodFrom goodObject objectAt isOffer Port.step eventOf packetOf readOf readingTried refuseIf wordOf fieldsOf objectsOf partOf isChunked messageOf meaningIn meaningOf byMeaning otherPacket newPacket goodCrcHeard byOutcome onGoodCrc onExpiry pendingId isRepeat acknowledged failed resent nothingDone happens leads onPacket changeOf heardAs firstObject fitOf fits asked turn enter changed standingOf isHonoured ended again heard sends controlOf dataOf headerOf bytesOf newOfferOf
 another-neighbour = (refl, refl, refl, refl, refl)
 
 at-four : loadOf (at desk 3) ≡ loadOf (at beside 3)
-unfolding Desk.rackAfter run history heldBy step answerAt settled judged approves powerRule others setUp goodSetUp goodSetting goodOffer goodFrom goodObject objectAt isOffer Port.step eventOf packetOf readOf readingTried refuseIf wordOf fieldsOf objectsOf partOf isChunked messageOf meaningIn meaningOf byMeaning otherPacket newPacket goodCrcHeard byOutcome onGoodCrc onExpiry pendingId isRepeat acknowledged failed resent nothingDone happens leads onPacket changeOf heardAs firstObject fitOf fits asked turn enter changed standingOf isHonoured ended again heard sends controlOf dataOf headerOf bytesOf newOfferOf
+unfolding Desk.rackAfter runBy historyBy heldBy step answerAt settled judged approves powerRule others setUp goodSetUp goodSetting goodOffer goodFrom goodObject objectAt isOffer Port.step eventOf packetOf readOf readingTried refuseIf wordOf fieldsOf objectsOf partOf isChunked messageOf meaningIn meaningOf byMeaning otherPacket newPacket goodCrcHeard byOutcome onGoodCrc onExpiry pendingId isRepeat acknowledged failed resent nothingDone happens leads onPacket changeOf heardAs firstObject fitOf fits asked turn enter changed standingOf isHonoured ended again heard sends controlOf dataOf headerOf bytesOf newOfferOf
 at-four = refl
 
 pub the-same-loads : (k : ℕ) → loadOf (at desk k) ≡ loadOf (at beside k)
@@ -172,5 +172,5 @@ pub power-that-is-put-in-force-and-given-up :
     (answerAt (at1 telling) 0 (packet (0x81 ∷ 0x04 ∷ [])) .held ≡ Change.InForce)
     × (answerAt desk 0 (event Event.Detach) .held ≡ Change.GivenUp)
     × (answerAt (at1 resetting) 0 (event Event.SupplyReady) .held ≡ Change.GivenUp)
-unfolding Desk.rackAfter run history heldBy step answerAt settled judged approves powerRule others setUp goodSetUp goodSetting goodOffer goodFrom goodObject objectAt isOffer Port.step eventOf packetOf readOf readingTried refuseIf wordOf fieldsOf objectsOf partOf isChunked messageOf meaningIn meaningOf byMeaning otherPacket newPacket goodCrcHeard byOutcome onGoodCrc onExpiry pendingId isRepeat acknowledged failed resent nothingDone happens leads onPacket changeOf heardAs firstObject fitOf fits asked turn enter changed standingOf isHonoured ended again heard sends controlOf dataOf headerOf bytesOf newOfferOf
+unfolding Desk.rackAfter runBy historyBy heldBy step answerAt settled judged approves powerRule others setUp goodSetUp goodSetting goodOffer goodFrom goodObject objectAt isOffer Port.step eventOf packetOf readOf readingTried refuseIf wordOf fieldsOf objectsOf partOf isChunked messageOf meaningIn meaningOf byMeaning otherPacket newPacket goodCrcHeard byOutcome onGoodCrc onExpiry pendingId isRepeat acknowledged failed resent nothingDone happens leads onPacket changeOf heardAs firstObject fitOf fits asked turn enter changed standingOf isHonoured ended again heard sends controlOf dataOf headerOf bytesOf newOfferOf
 power-that-is-put-in-force-and-given-up = (refl, refl, refl)

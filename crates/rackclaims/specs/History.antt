@@ -10,7 +10,7 @@ use Rattle.portclaims.specs.Held.{heldAfter}
 use Rattle.rack.specs.declared.Rack.{Rack}
 use Rattle.rack.specs.declared.RackAnswer.{RackAnswer}
 use Rattle.rack.specs.Steps.{Happening, event, packet, newOffer, step}
-use Rattle.rack.specs.Runs.{Happens}
+use Rattle.rack.specs.Runs.{Happens, Stepping}
 use Rattle.rackclaims.specs.Wire.{lastOffer, worthOn}
 
 -- an event and the answer to it: the actions, and what happened to held power
@@ -23,9 +23,13 @@ pub record Entry : Type 0 where
 abbrev pub entryOf : Happens → RackAnswer → Entry
 entryOf e a = record { number = e .number; happening = e .happening; actions = a .actions; change = a .held }
 
-unfoldable pub history : Rack → List Happens → List Entry
-history r [] = []
-history r (e ∷ es) = entryOf e (step r (e .number) (e .happening)) ∷ history (step r (e .number) (e .happening) .rack) es
+unfoldable pub historyBy : Stepping → Rack → List Happens → List Entry
+historyBy f r [] = []
+historyBy f r (e ∷ es) = entryOf e (f r (e .number) (e .happening)) ∷ historyBy f (f r (e .number) (e .happening) .rack) es
+
+-- by the rules
+abbrev pub history : Rack → List Happens → List Entry
+history r es = historyBy step r es
 
 -- what is known of a port by the history: the last offer put on its wire, the worth of the request last accepted, and the power held
 pub record Known : Type 0 where

@@ -1,6 +1,6 @@
 -- "The packet", as the wire tells it: the last offer put on it, and what a Request asks of that offer. Bytes alone; no memory of a port is read.
 use Prim.Native.Nat.{ℕ, _*_, _-_}
-use mathlib.Core.Bool.{Bool, cond, _&&_}
+use mathlib.Core.Bool.{Bool, not, cond, _&&_}
 use mathlib.Core.List.{List}
 use lib.Dec.{eqb, ltb}
 use lib.ListN.{drop}
@@ -13,13 +13,20 @@ use Rattle.outgoing.specs.declared.Packet.{Packet}
 use Rattle.outgoing.specs.Packets.{onWire}
 use Rattle.port.specs.Packets.{firstObject}
 
--- whether a message's bytes are a Source_Capabilities: of its type, and with objects
-unfoldable pub isOffer : List ℕ → Bool
-isOffer m = eqb (fieldsOf (wordOf m) .«message_type») Types.SourceCapabilities && ltb 0 (objectsOf (wordOf m))
+-- "Extended set: an extended message; else no objects: control; else data."
+abbrev isExtended : List ℕ → Bool
+isExtended m = fieldsOf (wordOf m) .extended
 
--- whether they are an Accept: of its type, and without objects
+abbrev hasObjects : List ℕ → Bool
+hasObjects m = ltb 0 (objectsOf (wordOf m))
+
+-- whether a message's bytes are a Source_Capabilities: of its type, and a data message
+unfoldable pub isOffer : List ℕ → Bool
+isOffer m = eqb (fieldsOf (wordOf m) .«message_type») Types.SourceCapabilities && (not (isExtended m) && hasObjects m)
+
+-- whether they are an Accept: of its type, and a control message
 unfoldable pub isAccept : List ℕ → Bool
-isAccept m = eqb (fieldsOf (wordOf m) .«message_type») Types.Accept && eqb (objectsOf (wordOf m)) 0
+isAccept m = eqb (fieldsOf (wordOf m) .«message_type») Types.Accept && (not (isExtended m) && not (hasObjects m))
 
 -- the last offer put on the wire, after one more transmission
 abbrev pub lastOffer : Packet → List ℕ → List ℕ
