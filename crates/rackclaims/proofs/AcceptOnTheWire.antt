@@ -60,7 +60,7 @@ unfolding isAccept wordOf fieldsOf
 nothing-is-none = refl
 
 -- a control message of ours, by its type
-control-by-type : (type id : ℕ) → isAccept (onWire (controlOf type id)) ≡ eqb (type % 32) Types.Accept
+pub control-by-type : (type id : ℕ) → isAccept (onWire (controlOf type id)) ≡ eqb (type % 32) Types.Accept
 unfolding isAccept controlOf fieldsOf
 control-by-type type id =
     rw (word-of-two (headerOf (ourFields type id) 0) [], plain-packed type id 0, type-packed (ourFields type id) 0, objects-packed (ourFields type id) 0) (and-true (eqb (type % 32) Types.Accept))
@@ -126,7 +126,7 @@ module _ (p : Port) (f : Fields) (fit : Fit) where
   by-listening true = by-repeat (isRepeat (p .channel) (f .«message_id») && true)
   by-listening false = nothing-is-none
 
-own-request : (p : Port) (s : List ℕ) (n : ℕ) (f : Fields) → readOf s ≡ Reading.Message n f → meaningIn n f ≡ Meaning.Request → isAccept (onWire (Port.step p (Port.packet s) .actions .transmit)) ≡ false
+pub own-request : (p : Port) (s : List ℕ) (n : ℕ) (f : Fields) → readOf s ≡ Reading.Message n f → meaningIn n f ≡ Meaning.Request → isAccept (onWire (Port.step p (Port.packet s) .actions .transmit)) ≡ false
 unfolding Port.step packetOf messageOf
 own-request p s n f e m = rw (e, m) (by-listening p f (fitIn p n s) (listens (stateOf p)))
 

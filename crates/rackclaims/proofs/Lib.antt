@@ -16,4 +16,4 @@ pub mod AcceptOnTheWire
 pub mod PortsAreStepped
 pub mod RefusalsInOrder
 pub mod RepeatChangesNothing
-pub mod GivenUpOnlySo
+pub mod HeldIsToldExactly

@@ -156,7 +156,7 @@ the-same-loads k = by-test (eqb k 3) refl
     by-test true e = subst (λ m. loadOf (at desk m) ≡ loadOf (at beside m)) (sym (eqb-true k 3 e)) at-four
     by-test false e = sym (ap loadOf (others-stay desk 4 k (event Event.Attach) (eqb-false k 3 e)))
 
--- GivenUpOnlySo: port 1 is told PS_RDY and acknowledges it; it is detached; and it hears a Hard Reset, until Default is ready
+-- HeldIsToldExactly: port 1 is told PS_RDY and acknowledges it; it is detached; and it hears a Hard Reset, until Default is ready
 abbrev at1 : List Happening → Rack
 at1 [] = desk
 at1 (h ∷ hs) = step (at1 hs) 1 h .rack
