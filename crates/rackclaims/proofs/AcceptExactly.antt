@@ -1,5 +1,5 @@
 -- An Accept answers a new Request exactly when it comes awaited or in Ready, fits the last offer put on the wire, and the power rule approves: now with the rule
--- as the paper has it, the sum over the other ports in the statement. In every rack that an accepted set-up and any events lead to. Assumes nothing.
+-- of the rack. In every rack that an accepted set-up and any events lead to. Assumes nothing.
 use Prim.Native.Nat.{ℕ, max, _+_, _<_, _≤_}
 use native.Mathlib.Omega.{arith}
 use mathlib.Core.Path.{_≡_, refl, sym, ap, subst, _∙_}
@@ -74,15 +74,18 @@ module _ (u : SetUp) (good : goodSetUp u ≡ true) (r : Rack) (k : Reached u r) 
         let y = at-no (ownAnswer r i (packet s) .port) (comes-to-ask (at r i .port) s q .0) in
         subst Rejects (sym (by-rule ∙ ap (λ b. judged b (ownAnswer r i (packet s))) e)) (record { reject-goes-out = y .transmits; refusing = y .state-is; nothing-accepted = y .change-is })
 
-    -- THE CLAIM: what asks no more than the share is approved, whatever the other ports did
-    pub share-is-approved : asks (at r i .port) s ≤ setting u i .share → powerRule r i (asks (at r i .port) s) ≡ true
+    -- THE CLAIM: what asks no more than the port takes already, its share or what it holds, is approved, whatever the other ports did
+    pub load-is-approved : asks (at r i .port) s ≤ loadOf (at r i) → asks (at r i .port) s ≤ at r i .limit → powerRule r i (asks (at r i .port) s) ≡ true
     unfolding powerRule
-    share-is-approved h =
+    load-is-approved h limit =
         let w = asks (at r i .port) s in
         let within : i < portsIn r = subst (λ n. i < n) (sym (ports-are u good r k)) here in
-        let limit : w ≤ at r i .limit = omega (arith, h, k .limit i here, share-within-limit u good i here) in
-        let supply : others r i + max (loadOf (at r i)) w ≤ r .supply = omega (arith, h, k .share i here, others-and-this r i within, k .fits) in
+        let supply : others r i + max (loadOf (at r i)) w ≤ r .supply = omega (arith, h, others-and-this r i within, k .fits) in
         within-both (at r i) (others r i) (r .supply) w limit supply
+
+    -- THE CLAIM: and so what asks no more than the share
+    pub share-is-approved : asks (at r i .port) s ≤ setting u i .share → powerRule r i (asks (at r i .port) s) ≡ true
+    share-is-approved h = load-is-approved (omega (arith, h, k .share i here)) (omega (arith, h, k .limit i here, share-within-limit u good i here))
 
     pub share-is-accepted : asks (at r i .port) s ≤ setting u i .share → Accepts (answerAt r i (packet s))
     share-is-accepted h = accept-where-approved (share-is-approved h)
