@@ -1,143 +1,171 @@
--- DEMAND 2. "Messages are read and written as USB PD R3.2 lays them out, each undoing the other (the reserved revision is read, never written), and a port steps as
--- the Source rules say. An Accept answers a new Request exactly when it comes awaited or in Ready, fits the last offer put on the wire, and the power rule
--- approves. While a port listens, a readable packet that repeats the last stored MessageID, Soft_Reset and GoodCRC aside, gets its GoodCRC again and changes
--- nothing. A message once dropped isn't retried." Assumes nothing.
-use Prim.Native.Nat.{ℕ, suc, max, _+_, _-_, _/_, _<_, _≤_}
+-- Ours meets demand 2 (specs/Demand2). Assumes nothing.
+use Prim.Native.Nat.{ℕ, suc, max, _+_, _<_, _≤_}
+use native.Mathlib.Nat.{le-trans, le-of-eq}
 use mathlib.Core.Path.{_≡_, refl, sym, ap, subst, _∙_}
-use mathlib.Core.Bool.{true, false}
+use mathlib.Core.Bool.{true, false, cond}
 use mathlib.Core.List.{List}
-use lib.ListN.{length, take, drop}
-use Rattle.ground.specs.declared.Refusal.the-variants.{OutOfRange}
+use lib.Dec.{eqb}
+use lib.ListN.{length}
 use Rattle.ground.specs.declared.Verdict.the-variants.{Fine}
-use Rattle.ground.specs.Buffers.{laid}
 use Rattle.message.specs.declared.Fields.{Fields}
-use Rattle.message.specs.Bytes.{AreBytes}
+use Rattle.message.specs.Bytes.{bytesOf}
 use Rattle.meaning.specs.declared.Meaning.{Meaning}
 use Rattle.reading.specs.declared.Reading.{Reading}
 use Rattle.reading.specs.Reading.{readOf, partOf}
-use Rattle.writing.specs.declared.Writing.{Writing}
-use Rattle.writing.specs.Writing.{Wrote}
-use Rattle.offers.specs.declared.Offer.{Offer}
-use Rattle.offers.specs.Requests.{fits, asked}
+use Rattle.reading.proofs.ReadsExactlyMessages.{read-is, part-is, bytes-are}
+use Rattle.writing.specs.Writing.{Wrote, writingTried}
+use Rattle.writing.proofs.Fine.{writable, fine}
+use Rattle.offers.specs.Requests.{asked}
 use Rattle.outgoing.specs.Packets.{onWire}
-use Rattle.channel.specs.Channel.{isRepeat}
-use Rattle.source.specs.States.{listens}
-use Rattle.port.specs.Memory.{stateOf, pendingIn, detachedPort}
+use Rattle.port.specs.declared.Answer.{Answer}
 use Rattle.port.specs.Packets.{firstObject, meaningIn}
 use Rattle.port.specs.Calls as Port
-use Rattle.portclaims.specs.Awaited.{awaitsRequest}
-use Rattle.portclaims.specs.Messages.{Transmits, Made}
-use Rattle.portclaims.specs.Repeats.{onlyGoodCrc, aside}
+use Rattle.portclaims.specs.Messages.{Transmits}
 use Rattle.portclaims.proofs.AcceptExactly.{fitting-request, its-parts}
-use Rattle.portclaims.proofs.Transmissions.{transmits, what-is-pending-was-made}
+use Rattle.slot.specs.Load.{loadOf}
+use Rattle.slot.specs.Answers.{hasAsked, judged}
 use Rattle.rack.specs.declared.Rack.{Rack}
-use Rattle.rack.specs.Ports.{at, others, powerRule}
-use Rattle.rack.specs.Steps.{packet, turned, answerAt, step}
+use Rattle.rack.specs.declared.RackAnswer.{RackAnswer}
+use Rattle.rack.specs.Ports.{at, total, others, powerRule, put}
+use Rattle.rack.specs.Steps.{Happening, packet, callOf, answerAt, turned, step}
 use Rattle.rack.specs.Runs.{Happens, run}
 use Rattle.setup.specs.declared.SetUp.{SetUp}
-use Rattle.setup.specs.SetUps.{setting, setUp}
+use Rattle.setup.specs.SetUps.{setting, goodSetUp, setUp}
 use Rattle.rackclaims.specs.Wire.{isAccept}
-use Rattle.rackclaims.proofs.GoodSetUps.{accepted-is-good, good-is-set-up}
-use Rattle.rackclaims.proofs.Reached.{within-limit, within-supply, within-both, comes-to-it}
-use Rattle.rackclaims.proofs.SupplyHolds.{reached}
+use Rattle.rackclaims.specs.History.{heldBy}
+use Rattle.rackclaims.proofs.GoodSetUps.{accepted-is-good}
+use Rattle.rackclaims.proofs.Reached.{Reached, within-limit, within-supply, within-both, comes-to-it, comes-to-another, at-its-place}
+use Rattle.rackclaims.proofs.SupplyHolds as Supply
 use Rattle.rackclaims.proofs.AcceptExactly.{AcceptedBy, by-request, accept-where-approved}
 use Rattle.rackclaims.proofs.AcceptOnTheWire.{accept-is-sent, sent-only-so}
+use Rattle.rackclaims.proofs.Neighbours.{put-other, answers-by-itself, answers-by-the-rule}
 use Rattle.rackclaims.proofs.RepeatChangesNothing as Repeat
-use Rattle.rackclaims.specs.Leads.{Leads}
-use Rattle.rackclaims.proofs.PortsAreStepped.{a-port-is-stepped}
+use Rattle.rackclaims.proofs.TransmissionsInTheRack as Rack
+use Rattle.demands.specs.Programs.{ours, history}
+use Rattle.demands.specs.Demand2.{ReadAndWritten, StepsByTheRules, Acceptable, AcceptsExactly, RepeatsChangeNothing, NothingDroppedIsRetried, Demand2}
 use Rattle.demands.proofs.WrittenReadsBack as Written
 use Rattle.demands.proofs.ReadWritesBack as Read
 
--- ---- messages are read and written, each undoing the other
--- the k bytes that were written from the place on read back the same
-pub what-was-written-reads-back : (f : Fields) (o buf : List ℕ) (place k : ℕ) (after : List ℕ) → Wrote f o buf place (Writing.Written k) after →
-    (readOf (take k (drop place after)) ≡ Reading.Message (length o / 4) f) × (partOf (take k (drop place after)) ≡ o)
-what-was-written-reads-back f o buf place k after w = let same = Written.written-reads-back f o buf place k after w in (same .message, same .objects)
+-- ---- messages
+wrote : (f : Fields) (o buf : List ℕ) (place : ℕ) → Wrote f o buf place (ours .write f o buf place) (ours .buffer f o buf place)
+wrote f o buf place = record { result = refl; buffer = refl }
 
--- what was read, its revision not 11b, writes back to the same bytes wherever there is room
-pub what-was-read-writes-back : (s : List ℕ) → AreBytes s → (n : ℕ) (f : Fields) → readOf s ≡ Reading.Message n f → f .revision < 3 →
-    (buf : List ℕ) (place : ℕ) (r : Writing) (after : List ℕ) → place ≤ length buf → length s ≤ length buf - place → Wrote f (partOf s) buf place r after →
-    (r ≡ Writing.Written (length s)) × (after ≡ laid s place buf)
-what-was-read-writes-back s b n f e revision buf place r after within room w = Read.read-writes-back s b n f e buf place r after revision within room w
+read-and-written : ReadAndWritten ours
+read-and-written =
+    record {
+      message-is-read = λ f o m. (read-is f o m, part-is f o m);
+      nothing-else-is-read = λ s b n f e. bytes-are s b n f e;
+      message-is-written = λ f o buf place w. let can = fine f o (length buf) place w in (rw can refl, rw can refl);
+      nothing-else-is-written = λ f o buf place k e. writable f o (length buf) place (Written.was-fine (writingTried f o (length buf) place) (bytesOf f o) k (sym e) .0);
+      reserved-is-never-written = λ f o buf place h. Read.reserved-never-written f o buf place (ours .write f o buf place) (ours .buffer f o buf place) h (wrote f o buf place);
+      written-reads-back =
+          λ f o buf place k e.
+          let back = Written.written-reads-back f o buf place k (ours .buffer f o buf place) (record { result = sym e; buffer = refl }) in (back .message, back .objects);
+      read-writes-back =
+          λ s b n f e revision buf place within room.
+          Read.read-writes-back s b n f e buf place (ours .write f (partOf s) buf place) (ours .buffer f (partOf s) buf place) revision within room (wrote f (partOf s) buf place);
+    }
 
--- the reserved revision is never written
-pub reserved-is-never-written : (f : Fields) (o buf : List ℕ) (place : ℕ) (r : Writing) (after : List ℕ) → 3 ≤ f .revision → Wrote f o buf place r after → r ≡ Writing.Refused OutOfRange
-reserved-is-never-written = Read.reserved-never-written
-
--- ---- after an accepted set-up and through any events at any ports
+-- ---- a port, after an accepted set-up and through any events
 module _ (u : SetUp) (accepted : setUp u .verdict ≡ Fine) (es : List Happens) (i : ℕ) (here : i < u .count) where
-  abbrev now′ : Rack
-  now′ = run (setUp u .rack) es
+  abbrev r : Rack
+  r = run (setUp u .rack) es
 
-  -- a port steps as the Source rules say: it is where they lead a detached port with its first offer, by calls that are each a step of those rules
-  pub a-port-steps-by-the-rules : Leads (detachedPort (setting u i .offer)) (at now′ i .port)
-  a-port-steps-by-the-rules =
-      let good = accepted-is-good u accepted in
-      subst (λ r. Leads (detachedPort (setting u i .offer)) (at (run r es) i .port)) (sym (good-is-set-up u good)) (a-port-is-stepped u good es i here)
+  good : goodSetUp u ≡ true
+  good = accepted-is-good u accepted
 
-  -- a Request comes to it
+  k : Reached u r
+  k = Supply.reached u accepted es
+
+  it-comes : (h : Happening) → step r (suc i) h ≡ turned r i (answerAt r i h)
+  it-comes h = comes-to-it u good r k i here h
+
+  -- ---- the rules
+  by-limit : (h : Happening) (limit : ℕ) → at r i .limit ≡ limit → hasAsked (at r i .port) (Port.step (at r i .port) (callOf limit h) .port) ≡ false → step r (suc i) h ≡ turned r i (Port.step (at r i .port) (callOf limit h))
+  by-limit h limit same =
+      subst (λ l. hasAsked (at r i .port) (Port.step (at r i .port) (callOf l h) .port) ≡ false → step r (suc i) h ≡ turned r i (Port.step (at r i .port) (callOf l h))) same
+      (λ e. it-comes h ∙ ap (turned r i) (answers-by-itself r i h e))
+
+  by-limit-and-rule : (h : Happening) (limit : ℕ) → at r i .limit ≡ limit → hasAsked (at r i .port) (Port.step (at r i .port) (callOf limit h) .port) ≡ true →
+      step r (suc i) h ≡ turned r i (judged (powerRule r i (Port.step (at r i .port) (callOf limit h) .port .power .accepted .worth)) (Port.step (at r i .port) (callOf limit h)))
+  by-limit-and-rule h limit same =
+      subst
+      (λ l. hasAsked (at r i .port) (Port.step (at r i .port) (callOf l h) .port) ≡ true →
+      step r (suc i) h ≡ turned r i (judged (powerRule r i (Port.step (at r i .port) (callOf l h) .port .power .accepted .worth)) (Port.step (at r i .port) (callOf l h))))
+      same
+      (λ e. it-comes h ∙ ap (turned r i) (answers-by-the-rule r i h e))
+
+  steps : StepsByTheRules ours u es i
+  steps =
+      record {
+        by-itself = λ h e. by-limit h (setting u i .limit) (k .limit i here) e;
+        with-the-power-answer = λ h e. by-limit-and-rule h (setting u i .limit) (k .limit i here) e;
+        no-other-port = λ h j d. ap (λ a. at (a .rack) j) (it-comes h) ∙ put-other r i j (answerAt r i h .port) d;
+      }
+
+  -- ---- Accept, exactly
   module _ (s : List ℕ) (n : ℕ) (f : Fields) (read : readOf s ≡ Reading.Message n f) (request : meaningIn n f ≡ Meaning.Request) where
     abbrev worth : ℕ
-    worth = asked (firstObject (partOf s)) (at now′ i .port .last) .worth
+    worth = asked (firstObject (partOf s)) (at r i .port .last) .worth
 
-    -- new, awaited or in Ready, fits the last offer put on the wire, and the power rule approves: "asked <= limit and the sum over the other ports of
-    -- max(share, held) plus max(share, held, asked) of this port is at most the supply"
-    pub record Acceptable : Type 0 where
-      pub new : isRepeat (at now′ i .port .channel) (f .«message_id») ≡ false
-      pub awaited-or-in-ready : awaitsRequest (stateOf (at now′ i .port)) ≡ true
-      pub fits-the-last-offer : fits n (firstObject (partOf s)) (at now′ i .port .last) ≡ true
-      pub within-the-limit : worth ≤ at now′ i .limit
-      pub within-the-supply : others now′ i + max (max (at now′ i .share) (at now′ i .port .power .held)) worth ≤ now′ .supply
+    -- the paper's sum over the history, and the rack's over its memory
+    abbrev taken : ℕ → ℕ
+    taken j = max (setting u j .share) (heldBy (suc j) (history ours u es))
 
-    abbrev answeredWithAccept : Type 0
-    answeredWithAccept = isAccept (onWire (step now′ (suc i) (packet s) .actions .transmit)) ≡ true
+    same-sum : total (λ j. cond (eqb j i) 0 (taken j)) (u .count) + max (taken i) worth ≡ others r i + max (loadOf (at r i)) worth
+    same-sum = rw (Supply.others-are u accepted es i, Supply.load-is u accepted es i here) refl
 
-    -- an Accept answers it where it is acceptable
-    pub accepted-when : Acceptable → answeredWithAccept
+    approved : Acceptable ours u es i s n f → powerRule r i worth ≡ true
     unfolding powerRule
-    accepted-when a =
-        let good = accepted-is-good u accepted in
-        let k = reached u accepted es in
-        let q = fitting-request (at now′ i .port) s n f read request (a .new) (a .awaited-or-in-ready) (a .fits-the-last-offer) in
-        ap (λ x. isAccept (onWire (x .actions .transmit))) (comes-to-it u good now′ k i here (packet s))
-        ∙ accept-is-sent (answerAt now′ i (packet s)) (accept-where-approved u good now′ k i here s q (within-both (at now′ i) (others now′ i) (now′ .supply) worth (a .within-the-limit) (a .within-the-supply)))
+    approved a =
+        within-both (at r i) (others r i) (r .supply) worth
+        (le-trans (a .within-the-limit) (le-of-eq (sym (k .limit i here))))
+        (le-trans (le-of-eq (sym same-sum)) (le-trans (a .within-the-supply) (le-of-eq (sym (k .supply)))))
 
-    acceptable : AcceptedBy now′ i (packet s) → Acceptable
+    accepted-when : Acceptable ours u es i s n f → isAccept (onWire (step r (suc i) (packet s) .actions .transmit)) ≡ true
+    accepted-when a =
+        let q = fitting-request (at r i .port) s n f read request (a .new) (a .awaited-or-in-ready) (a .fits-the-last-offer) in
+        ap (λ x. isAccept (onWire (x .actions .transmit))) (it-comes (packet s)) ∙ accept-is-sent (answerAt r i (packet s)) (accept-where-approved u good r k i here s q (approved a))
+
+    acceptable : AcceptedBy r i (packet s) → Acceptable ours u es i s n f
     unfolding powerRule
     acceptable (by-request t q e) =
-        let parts = its-parts (at now′ i .port) t n f read q in
+        let parts = its-parts (at r i .port) t n f read q in
         record {
           new = parts .0;
           awaited-or-in-ready = parts .1;
           fits-the-last-offer = parts .2;
-          within-the-limit = within-limit (at now′ i) (others now′ i) (now′ .supply) worth e;
-          within-the-supply = within-supply (at now′ i) (others now′ i) (now′ .supply) worth e;
+          within-the-limit = le-trans (within-limit (at r i) (others r i) (r .supply) worth e) (le-of-eq (k .limit i here));
+          within-the-supply = le-trans (le-of-eq same-sum) (le-trans (within-supply (at r i) (others r i) (r .supply) worth e) (le-of-eq (k .supply)));
         }
 
-    -- and only there
-    pub accepted-only-when : answeredWithAccept → Acceptable
+    accepted-only-when : isAccept (onWire (step r (suc i) (packet s) .actions .transmit)) ≡ true → Acceptable ours u es i s n f
     accepted-only-when w =
-        let good = accepted-is-good u accepted in
-        let k = reached u accepted es in
-        acceptable (sent-only-so u good now′ k i here s n f read request (sym (ap (λ x. isAccept (onWire (x .actions .transmit))) (comes-to-it u good now′ k i here (packet s))) ∙ w))
+        acceptable (sent-only-so u good r k i here s n f read request (sym (ap (λ x. isAccept (onWire (x .actions .transmit))) (it-comes (packet s))) ∙ w))
 
-  -- while the port listens, a readable packet that repeats the last stored MessageID, Soft_Reset and GoodCRC aside, gets its GoodCRC again and changes nothing
-  module _ (s : List ℕ) (n : ℕ) (f : Fields) (listening : listens (stateOf (at now′ i .port)) ≡ true) (read : readOf s ≡ Reading.Message n f)
-      (repeated : isRepeat (at now′ i .port .channel) (f .«message_id») ≡ true) (not-aside : aside (meaningIn n f) ≡ false) where
-    it-comes : step now′ (suc i) (packet s) ≡ turned now′ i (answerAt now′ i (packet s))
-    it-comes = comes-to-it u (accepted-is-good u accepted) now′ (reached u accepted es) i here (packet s)
+  accepts : AcceptsExactly ours u es i
+  accepts = record { accepted-when = accepted-when; accepted-only-when = accepted-only-when }
 
-    pub a-repeat-changes-nothing : step now′ (suc i) (packet s) .rack ≡ now′
-    a-repeat-changes-nothing = ap (λ a. a .rack) it-comes ∙ Repeat.repeat-changes-no-port now′ i s n f listening read repeated not-aside
+  -- ---- repeats, and what was dropped
+  repeats : RepeatsChangeNothing ours u es i
+  repeats =
+      record {
+        changes-nothing = λ s n f listening read repeated new. ap (λ a. a .rack) (it-comes (packet s)) ∙ Repeat.repeat-changes-no-port r i s n f listening read repeated new;
+        gets-its-good-crc = λ s n f listening read repeated new. ap (λ a. a .actions) (it-comes (packet s)) ∙ Repeat.repeat-gets-good-crc r i s n f listening read repeated new;
+      }
 
-    pub a-repeat-gets-its-good-crc : step now′ (suc i) (packet s) .actions ≡ onlyGoodCrc f (at now′ i .port) .actions
-    a-repeat-gets-its-good-crc = ap (λ a. a .actions) it-comes ∙ Repeat.repeat-gets-good-crc now′ i s n f listening read repeated not-aside
+  -- an event seen from the port is the port's answer
+  abbrev from : RackAnswer → Answer
+  from a = record { verdict = a .verdict; port = at (a .rack) i .port; actions = a .actions; held = a .held }
 
--- ---- a message once dropped isn't retried: whatever goes out of a port that calls lead to is made in that very step, or is what is pending
-module _ (o : Offer) (cs : List Port.Call) where
-  pub made-now-or-pending : (c : Port.Call) → Transmits (Port.run (detachedPort o) cs) (Port.step (Port.run (detachedPort o) cs) c)
-  made-now-or-pending c = transmits (Port.run (detachedPort o) cs) c
+  seen-is : (h : Happening) → from (step r (suc i) h) ≡ answerAt r i h
+  seen-is h =
+      let a = answerAt r i h in
+      ap from (it-comes h) ∙ ap (λ s. record { verdict = a .verdict; port = s .port; actions = a .actions; held = a .held }) (at-its-place u good r k i here (a .port))
 
-  -- and what is pending was made in one of those calls, and has been pending ever since
-  pub pending-since-it-was-made : pendingIn (Port.run (detachedPort o) cs) ≡ true → Made (Port.run (detachedPort o) cs .channel .pending .packet) (detachedPort o) cs
-  pending-since-it-was-made on = what-is-pending-was-made (detachedPort o) cs refl on
+  retries : NothingDroppedIsRetried ours u es i
+  retries = record { made-now-or-pending = λ h. subst (Transmits (at r i .port)) (sym (seen-is h)) (Rack.made-now-or-pending u r k i here h) }
+
+-- THE CLAIM
+pub ours-meets-demand-2 : Demand2 ours
+ours-meets-demand-2 = record { messages = read-and-written; steps = steps; accepts = accepts; repeats = repeats; retries = retries }

@@ -22,13 +22,13 @@ use Rattle.slot.specs.Load.{approves}
 use Rattle.slot.specs.Answers.{judged, settled}
 use Rattle.rack.specs.Ports.{others, powerRule}
 use Rattle.rack.specs.Steps.{answerAt, step}
-use Rattle.rack.specs.Runs.{run}
+use Rattle.rack.specs.Runs.{runBy}
 use Rattle.setup.specs.SetUps.{goodSetting, goodSetUp, setUp}
 use Rattle.rackclaims.specs.NightDesk.{rackAfter}
 use Rattle.demands.specs.StarredExamples.{table, All}
 
 -- THE CLAIM
 pub starred-examples : All table
-unfolding table readOf readingTried refuseIf wordOf fieldsOf objectsOf headerOf isChunked meaningOf bytesOf partOf objectAt goodObject goodFrom goodOffer fits asked fitOf controlOf dataOf pendingId isRepeat ended heard sends onGoodCrc changed standingOf leads onPacket changeOf enter turn happens acknowledged byOutcome nothingDone eventOf firstObject meaningIn heardAs newPacket otherPacket goodCrcHeard byMeaning messageOf packetOf Port.step approves judged settled others powerRule answerAt step run goodSetting goodSetUp setUp rackAfter
+unfolding table readOf readingTried refuseIf wordOf fieldsOf objectsOf headerOf isChunked meaningOf bytesOf partOf objectAt goodObject goodFrom goodOffer fits asked fitOf controlOf dataOf pendingId isRepeat ended heard sends onGoodCrc changed standingOf leads onPacket changeOf enter turn happens acknowledged byOutcome nothingDone eventOf firstObject meaningIn heardAs newPacket otherPacket goodCrcHeard byMeaning messageOf packetOf Port.step approves judged settled others powerRule answerAt step runBy goodSetting goodSetUp setUp rackAfter
 starred-examples =
     (refl, (refl, (refl, (refl, (refl, (refl, (refl, (record { worth = refl; total = refl; rule = refl; answer = refl }, (record { worth = refl; total = refl; rule = refl; answer = refl }, (record { worth = refl; total = refl; rule = refl; answer = refl }, (record { worth = refl; total = refl; rule = refl; answer = refl }, tt)))))))))))

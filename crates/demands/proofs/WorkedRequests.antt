@@ -34,18 +34,20 @@ use Rattle.slot.specs.Answers.{judged, settled}
 use Rattle.rack.specs.declared.Rack.{Rack}
 use Rattle.rack.specs.Ports.{at, others}
 use Rattle.rack.specs.Steps.{answerAt, step}
-use Rattle.rack.specs.Runs.{Happens, run}
+use Rattle.rack.specs.Runs.{Happens, runBy}
 use Rattle.setup.specs.SetUps.{setting, goodSetting, goodSetUp, setUp}
 use Rattle.rackclaims.specs.NightDesk as Desk
-use Rattle.rackclaims.proofs.Witnesses.{set-ups}
-use Rattle.demands.proofs.Demand2.{Acceptable}
+use Rattle.rackclaims.specs.Wire.{isOffer}
+use Rattle.rackclaims.specs.History.{historyBy, heldBy}
+use Rattle.demands.specs.Programs.{ours, rackNow}
+use Rattle.demands.specs.Demand2.{Acceptable}
 
 -- what came before, and the rack as it then is
 abbrev events : List Happens
 events = Desk.asked (record { number = 1; bytes = Desk.for120000 } ∷ (record { number = 2; bytes = Desk.for54000 } ∷ [])) ++ Desk.attached 3
 
 abbrev now′ : Rack
-now′ = run (setUp Desk.nightDesk .rack) events
+now′ = rackNow ours Desk.nightDesk events
 
 -- the fields of a receiver's first Request
 abbrev first : Fields
@@ -58,8 +60,8 @@ read = (refl, refl, refl)
 pub here : 2 < 4
 here = omega arith
 
-pub an-acceptable-request : Acceptable Desk.nightDesk (set-ups .0) events 2 here Desk.for36000 1 first (read .0) (read .2)
-unfolding readOf readingTried refuseIf wordOf fieldsOf objectsOf headerOf isChunked meaningOf bytesOf partOf objectAt goodObject goodFrom goodOffer fits asked fitOf controlOf dataOf pendingId isRepeat ended heard sends onGoodCrc changed standingOf leads onPacket changeOf enter turn happens acknowledged byOutcome nothingDone eventOf firstObject meaningIn heardAs newPacket otherPacket goodCrcHeard byMeaning messageOf packetOf Port.step approves judged settled others answerAt step run goodSetting goodSetUp setUp
+pub an-acceptable-request : Acceptable ours Desk.nightDesk events 2 Desk.for36000 1 first
+unfolding readOf readingTried refuseIf wordOf fieldsOf objectsOf headerOf isChunked meaningOf bytesOf partOf objectAt goodObject goodFrom goodOffer fits asked fitOf controlOf dataOf pendingId isRepeat ended heard sends onGoodCrc changed standingOf leads onPacket changeOf enter turn happens acknowledged byOutcome nothingDone eventOf firstObject meaningIn heardAs newPacket otherPacket goodCrcHeard byMeaning messageOf packetOf Port.step approves judged settled others answerAt step runBy historyBy heldBy isOffer goodSetting goodSetUp setUp
 an-acceptable-request = record { new = refl; awaited-or-in-ready = refl; fits-the-last-offer = refl; within-the-limit = leb-true 36000 120000 refl; within-the-supply = leb-true 240000 240000 refl }
 
 pub a-request-within-the-share :
@@ -67,5 +69,5 @@ pub a-request-within-the-share :
     × (awaitsRequest (stateOf (at now′ 2 .port)) ≡ true)
     × (fits 1 (firstObject (partOf Desk.for30000)) (at now′ 2 .port .last) ≡ true)
     × (asked (firstObject (partOf Desk.for30000)) (at now′ 2 .port .last) .worth ≤ setting Desk.nightDesk 2 .share)
-unfolding readOf readingTried refuseIf wordOf fieldsOf objectsOf headerOf isChunked meaningOf bytesOf partOf objectAt goodObject goodFrom goodOffer fits asked fitOf controlOf dataOf pendingId isRepeat ended heard sends onGoodCrc changed standingOf leads onPacket changeOf enter turn happens acknowledged byOutcome nothingDone eventOf firstObject meaningIn heardAs newPacket otherPacket goodCrcHeard byMeaning messageOf packetOf Port.step approves judged settled others answerAt step run goodSetting goodSetUp setUp
+unfolding readOf readingTried refuseIf wordOf fieldsOf objectsOf headerOf isChunked meaningOf bytesOf partOf objectAt goodObject goodFrom goodOffer fits asked fitOf controlOf dataOf pendingId isRepeat ended heard sends onGoodCrc changed standingOf leads onPacket changeOf enter turn happens acknowledged byOutcome nothingDone eventOf firstObject meaningIn heardAs newPacket otherPacket goodCrcHeard byMeaning messageOf packetOf Port.step approves judged settled others answerAt step runBy historyBy heldBy isOffer goodSetting goodSetUp setUp
 a-request-within-the-share = (refl, refl, refl, leb-true 30000 30000 refl)

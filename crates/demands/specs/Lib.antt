@@ -1,2 +1,6 @@
 pub mod Packets
 pub mod StarredExamples
+pub mod Programs
+pub mod Demand1
+pub mod Demand2
+pub mod Demand3

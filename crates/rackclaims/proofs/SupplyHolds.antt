@@ -4,11 +4,12 @@ use Prim.Native.Nat.{ℕ, suc, max, _<_, _≤_}
 use native.Mathlib.Nat.{le-trans, le-of-eq}
 use native.Mathlib.Omega.{arith}
 use mathlib.Core.Path.{_≡_, sym, ap, subst, _∙_}
-use mathlib.Core.Bool.{true}
+use mathlib.Core.Bool.{true, cond}
 use mathlib.Core.List.{List}
+use lib.Dec.{eqb}
 use Rattle.ground.specs.declared.Verdict.the-variants.{Fine}
 use Rattle.slot.specs.Load.{loadOf}
-use Rattle.rack.specs.Ports.{at, total, loads}
+use Rattle.rack.specs.Ports.{at, total, loads, others}
 use Rattle.rack.specs.Runs.{Happens, run}
 use Rattle.rack.proofs.Totals.{total-same, total-larger}
 use Rattle.setup.specs.declared.SetUp.{SetUp}
@@ -40,8 +41,15 @@ module _ (u : SetUp) (accepted : setUp u .verdict ≡ Fine) (es : List Happens) 
   pub limit-holds : (i : ℕ) → i < u .count → heldBy (suc i) entries ≤ setting u i .limit
   limit-holds i h = le-trans (le-of-eq (sym (program-keeps-the-history i h))) (le-trans (reached .within i h) (le-of-eq (reached .limit i h)))
 
-  load-is : (i : ℕ) → i < u .count → max (setting u i .share) (heldBy (suc i) entries) ≡ loadOf (at (run (setUp u .rack) es) i)
+  -- what a port takes, by the history, and what the others take
+  pub load-is : (i : ℕ) → i < u .count → max (setting u i .share) (heldBy (suc i) entries) ≡ loadOf (at (run (setUp u .rack) es) i)
   load-is i h = rw (← program-keeps-the-history i h, ← reached .share i h)
+
+  pub others-are : (i : ℕ) → total (λ k. cond (eqb k i) 0 (max (setting u k .share) (heldBy (suc k) entries))) (u .count) ≡ others (run (setUp u .rack) es) i
+  unfolding others
+  others-are i =
+      total-same _ (λ k. cond (eqb k i) 0 (loadOf (at (run (setUp u .rack) es) k))) (u .count) (λ k h. ap (λ n. cond (eqb k i) 0 n) (load-is k h))
+      ∙ ap (total (λ k. cond (eqb k i) 0 (loadOf (at (run (setUp u .rack) es) k)))) (sym (ports-are u good (run (setUp u .rack) es) reached))
 
   all-ports : total (λ i. loadOf (at (run (setUp u .rack) es) i)) (u .count) ≡ loads (run (setUp u .rack) es)
   unfolding loads
