@@ -1,18 +1,12 @@
 -- Ours meets demand 1 (specs/Demand1). And every refusal has a number of the table's ten. Assumes nothing.
-use Prim.Native.Nat.{ℕ, _≤_}
+use Prim.Native.Nat.{_≤_}
 use native.Mathlib.Omega.{arith}
-use mathlib.Core.Path.{_≡_, refl, sym}
-use mathlib.Core.List.{List}
-use lib.ListN.{length}
+use mathlib.Core.Path.{refl, sym}
 use Rattle.ground.specs.declared.Refusal.{Refusal}
 use Rattle.ground.specs.declared.Refusal.the-variants.{TooShort, TooLong, WrongLength, NotChunked, NoRoom, OutOfRange, BadOffer, NotAwaited, NotInRack, BadSetUp}
-use Rattle.ground.specs.declared.Verdict.the-variants.{Refused}
 use Rattle.ground.specs.Refusals.{numberOf}
-use Rattle.message.specs.declared.Fields.{Fields}
-use Rattle.reading.specs.declared.Reading.{Reading}
-use Rattle.reading.specs.Reading.{readingTried, readOf, partOf}
+use Rattle.reading.specs.Reading.{readOf, partOf}
 use Rattle.setup.specs.SetUps.{setUp}
-use Rattle.writing.specs.declared.Writing.{Writing}
 use Rattle.rackclaims.proofs.RefusalsInOrder.{refused-just-so}
 use Rattle.rackclaims.proofs.RefusedChangesNothing as Changed
 use Rattle.demands.specs.Programs.{ours}

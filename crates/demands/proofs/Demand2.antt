@@ -1,5 +1,5 @@
 -- Ours meets demand 2 (specs/Demand2). Assumes nothing.
-use Prim.Native.Nat.{ℕ, suc, max, _+_, _<_, _≤_}
+use Prim.Native.Nat.{ℕ, suc, max, _+_, _<_}
 use native.Mathlib.Nat.{le-trans, le-of-eq}
 use mathlib.Core.Path.{_≡_, refl, sym, ap, subst, _∙_}
 use mathlib.Core.Bool.{true, false, cond}
@@ -26,7 +26,7 @@ use Rattle.slot.specs.Load.{loadOf}
 use Rattle.slot.specs.Answers.{hasAsked, judged}
 use Rattle.rack.specs.declared.Rack.{Rack}
 use Rattle.rack.specs.declared.RackAnswer.{RackAnswer}
-use Rattle.rack.specs.Ports.{at, total, others, powerRule, put}
+use Rattle.rack.specs.Ports.{at, total, others, powerRule}
 use Rattle.rack.specs.Steps.{Happening, packet, callOf, answerAt, turned, step}
 use Rattle.rack.specs.Runs.{Happens, run}
 use Rattle.setup.specs.declared.SetUp.{SetUp}
@@ -34,7 +34,7 @@ use Rattle.setup.specs.SetUps.{setting, goodSetUp, setUp}
 use Rattle.rackclaims.specs.Wire.{isAccept}
 use Rattle.rackclaims.specs.History.{heldBy}
 use Rattle.rackclaims.proofs.GoodSetUps.{accepted-is-good}
-use Rattle.rackclaims.proofs.Reached.{Reached, within-limit, within-supply, within-both, comes-to-it, comes-to-another, at-its-place}
+use Rattle.rackclaims.proofs.Reached.{Reached, within-limit, within-supply, within-both, comes-to-it, at-its-place}
 use Rattle.rackclaims.proofs.SupplyHolds as Supply
 use Rattle.rackclaims.proofs.AcceptExactly.{AcceptedBy, by-request, accept-where-approved}
 use Rattle.rackclaims.proofs.AcceptOnTheWire.{accept-is-sent, sent-only-so}

@@ -4,7 +4,6 @@ use mathlib.Core.Path.{_≡_, sym, ap, _∙_}
 use mathlib.Core.List.{List}
 use Rattle.ground.specs.declared.Verdict.the-variants.{Fine}
 use Rattle.outgoing.specs.Packets.{onWire}
-use Rattle.port.specs.declared.Port.{Port}
 use Rattle.portclaims.proofs.AcceptExactly.{fitting-request}
 use Rattle.rack.specs.declared.Rack.{Rack}
 use Rattle.rack.specs.declared.RackAnswer.{RackAnswer}

@@ -50,7 +50,7 @@ abbrev now′ : Rack
 now′ = rackNow ours Desk.nightDesk events
 
 -- the fields of a receiver's first Request
-abbrev first : Fields
+abbrev pub first : Fields
 first = record { extended = false; «message_id» = 0; «power_role» = 0; revision = 2; «data_role» = 0; «message_type» = 2 }
 
 pub read : (readOf Desk.for36000 ≡ Reading.Message 1 first) × (readOf Desk.for30000 ≡ Reading.Message 1 first) × (meaningIn 1 first ≡ Meaning.Request)

@@ -69,7 +69,7 @@ module _ (P : Program) (u : SetUp) (es : List Happens) (i : ℕ) where
   port = at r i .port
 
   -- what an event gives, seen from this port
-  abbrev seen : Happening → Answer
+  abbrev pub seen : Happening → Answer
   seen h =
       let a = P .step r (suc i) h in
       record { verdict = a .verdict; port = at (a .rack) i .port; actions = a .actions; held = a .held }

@@ -26,7 +26,7 @@ use Rattle.source.specs.declared.Lead.{Lead}
 use Rattle.source.specs.declared.Lead.the-variants.{Refuse, To}
 use Rattle.source.specs.States.{same, listens}
 use Rattle.source.specs.Changes.{changeOf}
-use Rattle.source.proofs.Finite.{states, state}
+use Rattle.source.proofs.Finite.{state}
 use Rattle.stimuli.specs.Leads.{leads}
 use Rattle.hearing.specs.Packets.{onPacket}
 use Rattle.port.specs.declared.Event.{Event}
@@ -37,7 +37,7 @@ use Rattle.port.specs.Steps.{turn, ledTo, happens, acknowledged, failed, resent
 use Rattle.port.specs.Packets.{heardAs, isSoftReset, crcFor, ledBy, newPacket, otherPacket, goodCrcHeard, byMeaning, messageOf, meaningIn, readTo, packetOf}
 use Rattle.port.specs.Calls as Port
 use Rattle.portclaims.specs.Between.{implies}
-use Rattle.portclaims.proofs.Truth.{then, not-true, true-not-false}
+use Rattle.portclaims.proofs.Truth.{then, not-true}
 use Rattle.portclaims.proofs.Shapes.{fitIn}
 use Rattle.portclaims.proofs.AcceptExactly.{FittingRequest, comes-to-ask}
 use Rattle.slot.specs.Answers.{judged}

@@ -1,11 +1,10 @@
 -- "An event tries 9, then 1 to 4 or 7, then 8": an event at a port of the rack is refused with just the number that the table gives it, and is fine where the table
 -- gives none. For every rack, number and event. Assumes nothing.
 use Prim.Native.Nat.{ℕ}
-use mathlib.Core.Path.{_≡_, refl, sym, ap, subst, _∙_}
+use mathlib.Core.Path.{_≡_, refl, sym, ap, _∙_}
 use mathlib.Core.Bool.{Bool, true, false, not, cond, _&&_, _||_}
 use mathlib.Core.List.{List}
 use lib.Dec.{T, ltb}
-use Rattle.ground.specs.declared.Refusal.{Refusal}
 use Rattle.ground.specs.declared.Refusal.the-variants.{BadOffer, NotAwaited, NotInRack}
 use Rattle.ground.specs.declared.Verdict.{Verdict}
 use Rattle.ground.specs.declared.Verdict.the-variants.{Fine, Refused}
@@ -32,7 +31,6 @@ use Rattle.stimuli.specs.Leads.{leads}
 use Rattle.hearing.specs.Packets.{onPacket}
 use Rattle.port.specs.declared.Event.{Event}
 use Rattle.port.specs.declared.Port.{Port}
-use Rattle.port.specs.declared.Answer.{Answer}
 use Rattle.port.specs.Memory.{stateOf, factsOf, pendingIn, noCrc, refusedBy}
 use Rattle.port.specs.Steps.{turn, ledTo, happens, acknowledged, failed, resent, byOutcome, nothingDone, eventOf, offerJudged, newOfferOf}
 use Rattle.port.specs.Packets.{heardAs, isSoftReset, crcFor, ledBy, newPacket, otherPacket, goodCrcHeard, byMeaning, messageOf, meaningIn, readTo, packetOf}

@@ -1,17 +1,16 @@
 -- What goes out of a port of the rack is the first of a message made in that event, or the pending bytes again after fewer than two retries: also where the power
 -- answer comes within the event. For every rack that is reached. Assumes nothing.
 use Prim.Native.Nat.{ℕ, _<_}
-use mathlib.Core.Path.{_≡_, refl, sym, ap, subst, _∙_}
-use mathlib.Core.Bool.{Bool, true, false, not, _&&_}
+use mathlib.Core.Path.{_≡_, sym, ap, _∙_}
+use mathlib.Core.Bool.{Bool, true, false, not}
 use mathlib.Core.List.{List}
 use Rattle.source.specs.declared.State.{State}
-use Rattle.port.specs.declared.Event.{Event}
 use Rattle.port.specs.declared.Port.{Port}
 use Rattle.port.specs.declared.Answer.{Answer}
 use Rattle.port.specs.Memory.{stateOf, pendingIn}
 use Rattle.port.specs.Steps.{eventOf}
 use Rattle.port.specs.Calls as Port
-use Rattle.portclaims.specs.Between.{Between, calm, pends, isMade}
+use Rattle.portclaims.specs.Between.{Between, calm, isMade}
 use Rattle.portclaims.specs.Messages.{Transmits, nothing, first, again}
 use Rattle.portclaims.proofs.Truth as Truth
 use Rattle.portclaims.proofs.Between.{step-keeps}

@@ -1,8 +1,6 @@
 -- "What may not be left loose": what an answer says of held power, and where. Accepted, where a Request is answered with Accept; in force, where Telling's PS_RDY is
 -- acknowledged; given up, at detach and when Default is ready; else nothing.
-use Prim.Native.Nat.{ℕ}
 use mathlib.Core.Bool.{Bool, true, false, not, cond, _&&_}
-use mathlib.Core.List.{List}
 use lib.Dec.{eqb}
 use Rattle.meaning.specs.declared.Meaning.{Meaning}
 use Rattle.reading.specs.declared.Reading.{Reading}
