@@ -44,17 +44,14 @@ pub record ReadAndWritten (P : Program) : Type 0 where
   -- the bytes of a sound message, of whatever revision, are read as that message; and nothing else is read
   pub message-is-read : (f : Fields) (o : List ℕ) → Sound f o → (P .read (bytesOf f o) ≡ Reading.Message (length o / 4) f) × (P .part (bytesOf f o) ≡ o)
   pub nothing-else-is-read : (s : List ℕ) → AreBytes s → (n : ℕ) (f : Fields) → P .read s ≡ Reading.Message n f → bytesOf f (P .part s) ≡ s
-
   -- a sound message is written wherever there is room, unless its revision is 11b: its bytes from the place on, and no other byte; and nothing else is written
   pub message-is-written : (f : Fields) (o buf : List ℕ) (place : ℕ) → Writable f o (length buf) place →
       (P .write f o buf place ≡ Writing.Written (length (bytesOf f o))) × (P .buffer f o buf place ≡ laid (bytesOf f o) place buf)
   pub nothing-else-is-written : (f : Fields) (o buf : List ℕ) (place k : ℕ) → P .write f o buf place ≡ Writing.Written k → Writable f o (length buf) place
   pub reserved-is-never-written : (f : Fields) (o buf : List ℕ) (place : ℕ) → 3 ≤ f .revision → P .write f o buf place ≡ Writing.Refused OutOfRange
-
   -- what was written, k bytes from the place on, reads back the same
   pub written-reads-back : (f : Fields) (o buf : List ℕ) (place k : ℕ) → P .write f o buf place ≡ Writing.Written k →
       (P .read (take k (drop place (P .buffer f o buf place))) ≡ Reading.Message (length o / 4) f) × (P .part (take k (drop place (P .buffer f o buf place))) ≡ o)
-
   -- what was read with a revision other than 11b writes back to the same bytes, wherever there is room
   pub read-writes-back : (s : List ℕ) → AreBytes s → (n : ℕ) (f : Fields) → P .read s ≡ Reading.Message n f → f .revision < 3 →
       (buf : List ℕ) (place : ℕ) → place ≤ length buf → length s ≤ length buf - place →

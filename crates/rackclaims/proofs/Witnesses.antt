@@ -104,24 +104,20 @@ beside = step desk 4 (event Event.Attach) .rack
 pub record Worked : Type 0 where
   -- a set-up that is accepted, and two that are not
   pub set-ups : (setUp Desk.nightDesk .verdict ≡ Fine) × (setUp tooLittle .verdict ≡ Refused BadSetUp) × (setUp nothingOffered .verdict ≡ Refused BadSetUp)
-
   -- SupplyHolds, HeldByHistory: what the ports hold by the history of that night; and what port 1 then holds: the larger, what is in force, nothing
   pub held-that-night : (heldAt 1 night ≡ 120000) × (heldAt 2 night ≡ 54000) × (heldAt 3 night ≡ 36000) × (heldAt 4 night ≡ 0)
   pub held-in-the-end : (heldAt 1 asksLess ≡ 120000) × (heldAt 1 hasLess ≡ 30000) × (heldAt 1 isGone ≡ 0)
-
   -- AcceptExactly: port 3's Requests fit; the rule approves 36,000 and not 36,180; 30,000 is no more than its share
   pub fitting : FittingRequest (at desk 2 .port) Desk.for36000 × FittingRequest (at desk 2 .port) Desk.for36180 × FittingRequest (at desk 2 .port) Desk.for30000
   pub approved :
       (powerRule desk 2 (asks (at desk 2 .port) Desk.for36000) ≡ true)
       × (powerRule desk 2 (asks (at desk 2 .port) Desk.for36180) ≡ false)
       × (asks (at desk 2 .port) Desk.for30000 ≡ 30000)
-
   -- AcceptExactly.accepted-only-so, Neighbours: an answer that accepts, a port that has asked, and one that has not
   pub answers :
       (answerAt desk 2 (packet Desk.for36000) .held ≡ Change.Accepted)
       × (hasAsked (at desk 2 .port) (ownAnswer desk 2 (packet Desk.for36000) .port) ≡ true)
       × (hasAsked (at desk 2 .port) (ownAnswer desk 2 (event Event.Detach) .port) ≡ false)
-
   -- RefusalsInOrder, RefusedChangesNothing: a port that is not there, a packet that cannot be read, a bad offer, an event that is not awaited
   pub refusals :
       (step desk 5 (event Event.Detach) .verdict ≡ Refused NotInRack)
@@ -129,23 +125,19 @@ pub record Worked : Type 0 where
       × (step desk 3 (packet (0x82 ∷ [])) .verdict ≡ Refused TooShort)
       × (step desk 3 (newOffer noOffer) .verdict ≡ Refused BadOffer)
       × (step desk 3 (event Event.Attach) .verdict ≡ Refused NotAwaited)
-
   -- RepeatChangesNothing: port 2's Request again, while it is Accepting
   pub a-repeat :
       (listens (stateOf (at desk 1 .port)) ≡ true)
       × (readOf Desk.for54000 ≡ Reading.Message 1 asksOnce)
       × (isRepeat (at desk 1 .port .channel) 0 ≡ true)
       × (aside (meaningIn 1 asksOnce) ≡ false)
-
   -- TransmissionsInTheRack: port 1's Accept is pending, and goes out again
   pub sent-again : (pendingIn (at desk 0 .port) ≡ true) × (answerAt desk 0 (event Event.Acknowledgement) .actions .transmit ≡ at desk 0 .port .channel .pending .packet)
-
   -- HeldIsToldExactly: port 1 acknowledges its PS_RDY; it is detached; and Default is ready after a Hard Reset
   pub told :
       (answerAt telling 0 (packet (0x81 ∷ 0x04 ∷ [])) .held ≡ Change.InForce)
       × (answerAt desk 0 (event Event.Detach) .held ≡ Change.GivenUp)
       × (answerAt resetting 0 (event Event.SupplyReady) .held ≡ Change.GivenUp)
-
   -- Neighbours: another neighbour, of the same load
   pub another-neighbour :
       (stateOf (at desk 3 .port) ≡ State.Detached)
