@@ -15,6 +15,9 @@ pub mod HeldByChange
 pub mod SlipsOfTheOldFirmware
 pub mod TimerByActions
 pub mod NeverSleeps
+pub mod FailedSends
+pub mod OffersGoOut
+pub mod UnfitIsRejected
 pub mod OfferCount
 pub mod NothingLoose
 pub mod Witnesses

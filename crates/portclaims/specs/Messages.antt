@@ -3,14 +3,22 @@ use Prim.Native.Nat.{ℕ, _+_, _<_, _≤_}
 use mathlib.Core.Path.{_≡_}
 use mathlib.Core.Bool.{true, false}
 use mathlib.Core.List.{List, [], _∷_}
+use lib.Dec.{eqb}
+use Rattle.message.specs.declared.Fields.{Fields}
 use Rattle.message.specs.Types as Types
+use Rattle.meaning.specs.declared.Meaning.{Meaning}
+use Rattle.reading.specs.declared.Reading.{Reading}
+use Rattle.reading.specs.Reading.{readOf}
 use Rattle.outgoing.specs.declared.Packet.{Packet}
 use Rattle.outgoing.specs.Packets.{noPacket, controlOf, dataOf}
-use Rattle.channel.specs.Channel.{mostRetries}
+use Rattle.channel.specs.Channel.{pendingId, mostRetries}
+use Rattle.source.specs.States.{listens}
 use Rattle.port.specs.declared.Port.{Port}
 use Rattle.port.specs.declared.Answer.{Answer}
-use Rattle.port.specs.Memory.{pendingIn}
-use Rattle.port.specs.Calls.{Call, step, run}
+use Rattle.port.specs.declared.Event.{Event}
+use Rattle.port.specs.Memory.{stateOf, pendingIn}
+use Rattle.port.specs.Packets.{meaningIn}
+use Rattle.port.specs.Calls.{Call, event, packet, step, run}
 
 -- a message of ours with this MessageID
 pub data Ours : Packet → ℕ → Type 0 where
@@ -63,3 +71,9 @@ pub record Made (m : Packet) (p : Port) (cs : List Call) : Type 0 where
   pub sent : Sent m times p cs
   pub retried : times ≡ run p cs .channel .pending .retries + 1
   pub at-most-three : times ≤ 3
+
+-- a call that tells a port that its message was not heard: the acknowledgement timer, or a GoodCRC with another MessageID than the pending one
+pub data Unheard (p : Port) : Call → Type 0 where
+  by-timer : Unheard p (event Event.Acknowledgement)
+  by-another-good-crc : (s : List ℕ) (n : ℕ) (f : Fields) → listens (stateOf p) ≡ true → readOf s ≡ Reading.Message n f → meaningIn n f ≡ Meaning.GoodCrc →
+      eqb (pendingId (p .channel)) (f .«message_id») ≡ false → Unheard p (packet s)
