@@ -11,6 +11,7 @@ pub mod Between
 pub mod AcceptExactly
 pub mod Transmissions
 pub mod CountsOneOn
+pub mod NothingElseCounts
 pub mod HeldByChange
 pub mod SlipsOfTheOldFirmware
 pub mod TimerByActions

@@ -224,10 +224,12 @@ module _ (p : Port) (offers : stateOf p ≡ State.Offer) (alone : p .connected �
       let k = offer-fails-unconnected p offers alone in
       rw it-fails (k .0, k .1, k .2)
 
+  abbrev nextOffer : Answer
+  nextOffer = step unheard (event Event.SourceCapability)
+
   -- THE CLAIM: and the next one goes out with the next MessageID, once SourceCapability has expired
   pub the-next-offer-counts-on : leb mostOffers (p .count) ≡ false →
-      (stateOf (step unheard (event Event.SourceCapability) .port) ≡ State.Offer)
-      × (step unheard (event Event.SourceCapability) .actions .transmit
-      ≡ dataOf Types.SourceCapabilities (nextId (p .channel .counter)) (p .newest .objects) (p .newest .count))
+      (stateOf (nextOffer .port) ≡ State.Offer)
+      × (nextOffer .actions .transmit ≡ dataOf Types.SourceCapabilities (nextId (p .channel .counter)) (p .newest .objects) (p .newest .count))
   unfolding step eventOf failed happens leads changeOf turn enter ended
   the-next-offer-counts-on few = rw (it-fails, offers, alone, few) (refl, refl)
