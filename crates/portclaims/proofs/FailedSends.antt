@@ -1,6 +1,5 @@
 -- A send that is not acknowledged the third time has failed, told by the acknowledgement timer or by a GoodCRC with another MessageID; and where that leads each state
 -- that sends. Assumes nothing.
-use Prim.Native.Nat.{ℕ}
 use mathlib.Core.Path.{_≡_, refl}
 use mathlib.Core.Bool.{Bool, true, false, cond}
 use lib.Dec.{ltb}
@@ -26,8 +25,8 @@ module _ (p : Port) where
   unfolding step eventOf packetOf messageOf byMeaning goodCrcHeard onGoodCrc onExpiry byOutcome
   again-or-failed c by-timer on true e = rw (on, e) refl
   again-or-failed c by-timer on false e = rw (on, e) refl
-  again-or-failed c (by-another-good-crc s n f l r m i) on true e = rw (r, l, m, on, i, e) refl
-  again-or-failed c (by-another-good-crc s n f l r m i) on false e = rw (r, l, m, on, i, e) refl
+  again-or-failed c (by-another-good-crc s n f l r m i) on true e = rw (r, l, m, on, e, i) refl
+  again-or-failed c (by-another-good-crc s n f l r m i) on false e = rw (r, l, m, on, e, i) refl
 
   -- ---- "Offer: failed: Discovery, or Soft if connected."
   pub offer-fails-unconnected : stateOf p ≡ State.Offer → p .connected ≡ false →

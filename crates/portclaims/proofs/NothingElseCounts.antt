@@ -33,7 +33,7 @@ use Rattle.port.specs.Packets.{heardAs, askedBy, isSoftReset, crcFor, hearing}
 use Rattle.port.specs.Calls.{Call, step}
 use Rattle.portclaims.specs.Between.{implies, isReset, Between}
 use Rattle.portclaims.proofs.Groups.{oneStimulusOf}
-use Rattle.portclaims.proofs.Truth.{so, holds, true-not-false, then, first, second}
+use Rattle.portclaims.proofs.Truth.{holds, true-not-false, then, first}
 use Rattle.portclaims.proofs.Ways as Ways
 use Rattle.portclaims.proofs.Tables as Tables
 use Rattle.portclaims.proofs.Led.{turn-state, led-state, at-way}

@@ -1,7 +1,7 @@
 -- An offer that has not gone out goes out as soon as the port would rest: at once from Ready and Waiting, and wherever a state would lead to one of them; else it is
 -- kept. And attach, and a Soft_Reset of ours that is accepted, lead to Offer. (Discovery, Default, Answering and Get_Source_Cap: NeverSleeps.) Assumes nothing.
 use Prim.Native.Nat.{ℕ}
-use mathlib.Core.Path.{_≡_, refl, sym}
+use mathlib.Core.Path.{_≡_, refl}
 use mathlib.Core.Bool.{Bool, true, false, _||_}
 use mathlib.Core.List.{List}
 use Rattle.message.specs.declared.Fields.{Fields}

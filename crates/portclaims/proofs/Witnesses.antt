@@ -190,7 +190,7 @@ inHard = inAccepting ++ (event Event.HardReset ∷ [])
 abbrev inDefault : List Call
 inDefault = inHard ++ (event Event.PsHardReset ∷ [])
 
-abbrev EveryState : Type 0
+abbrev pub EveryState : Type 0
 EveryState =
     (stateOf (at []) ≡ State.Detached)
     × (stateOf (at inOffer) ≡ State.Offer)
@@ -211,7 +211,7 @@ EveryState =
 
 -- ---- example 7, whole
 -- "Port in Ready, counter 3, stored 0, contract 5 V 3 A, both objects offered"
-abbrev Example7Begins : Type 0
+abbrev pub Example7Begins : Type 0
 Example7Begins =
     (stateOf (at inReady) ≡ State.Ready)
     × (at inReady .channel .counter ≡ 3)
@@ -243,7 +243,7 @@ atYes =
     }
 
 -- "Accepting, stored 1, held 54,000."
-abbrev Example7Answers : Type 0
+abbrev pub Example7Answers : Type 0
 Example7Answers =
     (step (at inReady) (packet asks9V) .actions ≡ atTheRequest)
     × (step (at inJudge) (event Event.Yes) .actions ≡ atYes)
@@ -253,7 +253,7 @@ Example7Answers =
     × (at inAccepting .power .held ≡ 54000)
 
 -- "Same packet again: GoodCRC only" (RepeatChangesNothing), and that it meets that claim's conditions
-abbrev Example7Repeats : Type 0
+abbrev pub Example7Repeats : Type 0
 Example7Repeats =
     (step (at inAccepting) (packet asks9V) ≡ onlyGoodCrc (theirs 1 2) (at inAccepting))
     × (onlyGoodCrc (theirs 1 2) (at inAccepting) .actions .«good_crc» .bytes ≡ 0xA1 ∷ 0x03 ∷ [])
@@ -263,7 +263,7 @@ Example7Repeats =
     × (aside (meaningIn 1 (theirs 1 2)) ≡ false)
 
 -- ---- Requests: one that fits (AcceptExactly.comes-to-ask, SlipsOfTheOldFirmware.judged-by-the-last-offer), one that does not (UnfitIsRejected)
-abbrev Requests : Type 0
+abbrev pub Requests : Type 0
 Requests =
     FittingRequest (at inReady) asks9V
     × New (at inOffer) asksTooHigh0 1 (theirs 0 2) Meaning.Request
@@ -271,11 +271,11 @@ Requests =
     × (fits 1 (firstObject (partOf asksTooHigh0)) (at inOffer .last) ≡ false)
 
 -- a refusal (RefusedChangesNothing)
-abbrev ARefusal : Type 0
+abbrev pub ARefusal : Type 0
 ARefusal = step (at inReady) (event Event.Attach) .verdict ≡ Refused NotAwaited
 
 -- ---- messages (Transmissions): one offer goes out three times, the same bytes, and no more
-abbrev ThreeTransmissions : Type 0
+abbrev pub ThreeTransmissions : Type 0
 ThreeTransmissions =
     (pendingIn (at []) ≡ false)
     × (onWire (step (at []) (event Event.Attach) .actions .transmit) ≡ 0xA1 ∷ 0x21 ∷ 0x2C ∷ 0x91 ∷ 0x01 ∷ 0x00 ∷ 0x2C ∷ 0xD1 ∷ 0x02 ∷ 0x00 ∷ [])
@@ -286,14 +286,14 @@ ThreeTransmissions =
     × (pendingIn (at inDiscovery) ≡ false)
 
 -- a new offer that is kept while a message is pending takes none of its retries back
-abbrev AKeptOffer : Type 0
+abbrev pub AKeptOffer : Type 0
 AKeptOffer =
     (stateOf (at (inAccepting ++ (event Event.Acknowledgement ∷ newOffer 120000 less ∷ []))) ≡ State.Accepting)
     × (at (inAccepting ++ (event Event.Acknowledgement ∷ newOffer 120000 less ∷ [])) .newest ≡ less)
     × (at (inAccepting ++ (event Event.Acknowledgement ∷ newOffer 120000 less ∷ [])) .channel .pending ≡ record { packet = controlOf Types.Accept 3; retries = 1 })
 
 -- the GoodCRC of a pending offer; the same offer acknowledged (NeverSleeps)
-abbrev APendingOffer : Type 0
+abbrev pub APendingOffer : Type 0
 APendingOffer =
     (pendingIn (at attached) ≡ true)
     × (ltb (at attached .channel .pending .retries) mostRetries ≡ true)
@@ -303,7 +303,7 @@ APendingOffer =
     × (pendingIn (at inOffer) ≡ false)
 
 -- the last transmission of an offer that no one hears, to a receiver that is not known to be there, told by the timer or by another GoodCRC (FailedSends, the slips)
-abbrev ASendAboutToFail : Type 0
+abbrev pub ASendAboutToFail : Type 0
 ASendAboutToFail =
     (stateOf (at unheardTwice) ≡ State.Offer)
     × (at unheardTwice .connected ≡ false)
@@ -314,14 +314,14 @@ ASendAboutToFail =
     × Unheard (at unheardTwice) (packet goodCrc1)
 
 -- an offer to a receiver that is known to be there (FailedSends)
-abbrev AnOfferToOneThatIsThere : Type 0
+abbrev pub AnOfferToOneThatIsThere : Type 0
 AnOfferToOneThatIsThere =
     (stateOf (at (inReady ++ (packet getSourceCap1 ∷ []))) ≡ State.Offer)
     × (at (inReady ++ (packet getSourceCap1 ∷ [])) .connected ≡ true)
     × (pendingIn (at (inReady ++ (packet getSourceCap1 ∷ []))) ≡ true)
 
 -- ---- Discovery below fifty offers and at fifty (NeverSleeps, OfferCount)
-abbrev FewerAndFifty : Type 0
+abbrev pub FewerAndFifty : Type 0
 FewerAndFifty =
     (leb mostOffers (at inDiscovery .count) ≡ false)
     × (stateOf (at inDiscoveryAtFifty) ≡ State.Discovery)
@@ -331,7 +331,7 @@ FewerAndFifty =
 
 -- ---- the slips
 -- old power is kept: 9 V in force, 5 V asked and approved
-abbrev OldPowerIsKept : Type 0
+abbrev pub OldPowerIsKept : Type 0
 OldPowerIsKept =
     (stateOf (at inReadyAt9V) ≡ State.Ready)
     × (at inReadyAt9V .power .contract ≡ Contract.Made (record { position = 2; voltage = 180; current = 300; worth = 54000 }))
@@ -342,7 +342,7 @@ OldPowerIsKept =
     × (at (inReadyAt9V ++ (packet asks5VLater ∷ event Event.Yes ∷ [])) .power .held ≡ 54000)
 
 -- a Soft_Reset with the MessageID that is stored: in Ready, and in Accepting, where it leads to Hard
-abbrev SoftResetsLikeRepeats : Type 0
+abbrev pub SoftResetsLikeRepeats : Type 0
 SoftResetsLikeRepeats =
     (readOf softReset0 ≡ Reading.Message 0 (theirs 0 13))
     × (meaningIn 0 (theirs 0 13) ≡ Meaning.SoftReset)
@@ -357,7 +357,7 @@ SoftResetsLikeRepeats =
     × (at (inAccepting ++ (packet softReset1 ∷ [])) .channel ≡ fresh)
 
 -- a retry that is dropped at a Hard Reset: Accept is pending, and may go out twice more
-abbrev ADroppedRetry : Type 0
+abbrev pub ADroppedRetry : Type 0
 ADroppedRetry =
     (pendingIn (at inAccepting) ≡ true)
     × (ltb (at inAccepting .channel .pending .retries) mostRetries ≡ true)
@@ -366,7 +366,7 @@ ADroppedRetry =
 
 -- ---- where acknowledgements lead (NeverSleeps, OffersGoOut)
 -- a contract that is honoured, one that no longer is, and none
-abbrev ThreeStandings : Type 0
+abbrev pub ThreeStandings : Type 0
 ThreeStandings =
     (standingOf (at inRefusing .power .contract) (at inRefusing .last) ≡ Standing.NoContract)
     × (standingOf (at inRefusingWithContract .power .contract) (at inRefusingWithContract .last) ≡ Standing.Honoured)
@@ -374,7 +374,7 @@ ThreeStandings =
     × (standingOf (at inRefusingBroken .power .contract) (at inRefusingBroken .last) ≡ Standing.Broken)
 
 -- newest offers that have gone out
-abbrev GoneOut : Type 0
+abbrev pub GoneOut : Type 0
 GoneOut =
     (at inTelling .«gone_out» ≡ true)
     × (at inDeclining .«gone_out» ≡ true)
@@ -385,7 +385,7 @@ GoneOut =
 abbrev afterOffer : List Call → Port
 afterOffer cs = at (cs ++ (newOffer 120000 less ∷ []))
 
-abbrev NotGoneOut : Type 0
+abbrev pub NotGoneOut : Type 0
 NotGoneOut =
     (goodOffer 120000 less ≡ true)
     × (stateOf (afterOffer inTelling) ≡ State.Telling)
@@ -398,14 +398,14 @@ NotGoneOut =
     × (afterOffer inRefusingWithContract .«gone_out» ≡ false)
 
 -- Soft once its Soft_Reset is acknowledged; and the Accept that it waits for
-abbrev InSoft : Type 0
+abbrev pub InSoft : Type 0
 InSoft =
     (stateOf (at (inSoft ++ (packet goodCrc0 ∷ []))) ≡ State.Soft)
     × (pendingIn (at (inSoft ++ (packet goodCrc0 ∷ []))) ≡ false)
     × New (at (inSoft ++ (packet goodCrc0 ∷ []))) accept1 0 (theirs 1 3) Meaning.Reply
 
 -- a Get_Source_Cap that is new, in Ready and in Waiting
-abbrev AsksForTheOffer : Type 0
+abbrev pub AsksForTheOffer : Type 0
 AsksForTheOffer =
     New (at inReady) getSourceCap1 0 (theirs 1 7) Meaning.GetSourceCap
     × New (at inWaiting) getSourceCap1 0 (theirs 1 7) Meaning.GetSourceCap

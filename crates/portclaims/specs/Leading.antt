@@ -1,5 +1,4 @@
 -- Where an answer leads, with all that the paper says of entering there: Offer, Soft and Hard.
-use Prim.Native.Nat.{ℕ}
 use mathlib.Core.Path.{_≡_}
 use mathlib.Core.Bool.{true}
 use Rattle.message.specs.Types as Types
