@@ -28,6 +28,7 @@ module _ (p : Port) where
   again-or-failed c (by-another-good-crc s n f l r m i) on true e = rw (r, l, m, on, e, i) refl
   again-or-failed c (by-another-good-crc s n f l r m i) on false e = rw (r, l, m, on, e, i) refl
 
+  -- THE CLAIMS: where a failed send leads
   -- ---- "Offer: failed: Discovery, or Soft if connected."
   pub offer-fails-unconnected : stateOf p ≡ State.Offer → p .connected ≡ false →
       (stateOf (failed p .port) ≡ State.Discovery)

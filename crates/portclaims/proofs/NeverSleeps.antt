@@ -68,6 +68,7 @@ never-sleeps p k on = by-pending (pendingIn p) (first (pends (stateOf p) (pendin
     by-pending true e = then (isOn (stateOf p) && pends (stateOf p) true) _ (waiting-pending (stateOf p)) (and (isOn (stateOf p)) (pends (stateOf p) true) on e)
     by-pending false e = then (isOn (stateOf p) && pends (stateOf p) false) _ (waiting-none (stateOf p)) (and (isOn (stateOf p)) (pends (stateOf p) false) on e)
 
+-- THE CLAIMS: where each of these leads
 -- ---- a timer that runs
 module _ (p : Port) where
   pub offer-unanswered : stateOf p ≡ State.Offer → pendingIn p ≡ false →

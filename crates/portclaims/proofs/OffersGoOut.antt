@@ -34,6 +34,7 @@ neither : (a b : Bool) → (a || b) ≡ false → (a ≡ false) × (b ≡ false)
 neither true b e = true-not-false e
 neither false b e = (refl, e)
 
+-- THE CLAIMS
 -- ---- "A new offer replaces the newest. From Ready and Waiting it leads to Offer; elsewhere it is kept."
 module _ (p : Port) (limit : ℕ) (o : Offer) (good : goodOffer limit o ≡ true) where
   pub new-offer-in-ready : stateOf p ≡ State.Ready → ToOffer o (step p (newOffer limit o))
