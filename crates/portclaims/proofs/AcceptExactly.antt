@@ -99,7 +99,8 @@ listens-then State.Default e = true-not-false (sym e)
 
 -- the same, part by part
 module _ (p : Port) (s : List ℕ) (n : ℕ) (f : Fields) (read : readOf s ≡ Reading.Message n f) (request : meaningIn n f ≡ Meaning.Request) where
-  pub fitting-request : isRepeat (p .channel) (f .«message_id») ≡ false → awaitsRequest (stateOf p) ≡ true → fits n (firstObject (partOf s)) (p .last) ≡ true → FittingRequest p s
+  pub fitting-request : isRepeat (p .channel) (f .«message_id») ≡ false → awaitsRequest (stateOf p) ≡ true →
+      fits n (firstObject (partOf s)) (p .last) ≡ true → FittingRequest p s
   fitting-request new awaited fit =
       record {
         objects = n;
@@ -117,7 +118,10 @@ no-repeat true e = e
 no-repeat false e = refl
 
 module _ (p : Port) (s : List ℕ) (n : ℕ) (f : Fields) (read : readOf s ≡ Reading.Message n f) (r : FittingRequest p s) where
-  pub its-parts : (isRepeat (p .channel) (f .«message_id») ≡ false) × (awaitsRequest (stateOf p) ≡ true) × (fits n (firstObject (partOf s)) (p .last) ≡ true)
+  pub its-parts :
+      (isRepeat (p .channel) (f .«message_id») ≡ false)
+      × (awaitsRequest (stateOf p) ≡ true)
+      × (fits n (firstObject (partOf s)) (p .last) ≡ true)
   its-parts =
       let same = same-message (r .objects) n (r .fields) f (sym (r .new .read) ∙ read) in (
         subst (λ g. isRepeat (p .channel) (g .«message_id») ≡ false) (same .1) (no-repeat (isRepeat (p .channel) (r .fields .«message_id»)) (r .new .fresh)),
@@ -134,7 +138,9 @@ module _ (p : Port) (s : List ℕ) (r : FittingRequest p s) where
   it-fits = rw (r .fitting) refl
 
   -- THE CLAIM: it comes to ask, and what it asks is kept
-  pub comes-to-ask : (stateOf (step p (packet s) .port) ≡ State.Judge) × (step p (packet s) .port .power .accepted ≡ wanted)
+  pub comes-to-ask :
+      (stateOf (step p (packet s) .port) ≡ State.Judge)
+      × (step p (packet s) .port .power .accepted ≡ wanted)
   unfolding step packetOf messageOf byMeaning otherPacket newPacket heardAs turn enter
   comes-to-ask = rw (r .new .read, r .new .listening, r .new .meaning, r .new .fresh, it-fits, to-judge (stateOf p) (r .awaited)) (refl, refl)
 
@@ -247,12 +253,20 @@ module _ (p : Port) (elsewhere : same (stateOf p) State.Judge ≡ false) where
 -- ---- the power answer
 module _ (p : Port) (judging : stateOf p ≡ State.Judge) where
   -- THE CLAIM: at yes Accept goes out, and held is the larger of held and asked
-  pub yes-accepts : (stateOf (step p (event Event.Yes) .port) ≡ State.Accepting) × (step p (event Event.Yes) .actions .transmit ≡ controlOf Types.Accept (p .channel .counter)) × (step p (event Event.Yes) .port .power .held ≡ max (p .power .held) (p .power .accepted .worth)) × (step p (event Event.Yes) .held ≡ Change.Accepted)
+  pub yes-accepts :
+      (stateOf (step p (event Event.Yes) .port) ≡ State.Accepting)
+      × (step p (event Event.Yes) .actions .transmit ≡ controlOf Types.Accept (p .channel .counter))
+      × (step p (event Event.Yes) .port .power .held ≡ max (p .power .held) (p .power .accepted .worth))
+      × (step p (event Event.Yes) .held ≡ Change.Accepted)
   unfolding step eventOf happens leads changeOf turn enter changed
   yes-accepts = rw judging (refl, refl, refl, refl)
 
   -- THE CLAIM: at no Reject goes out, and held is what it was
-  pub no-rejects : (stateOf (step p (event Event.No) .port) ≡ State.Refusing) × (step p (event Event.No) .actions .transmit ≡ controlOf Types.Reject (p .channel .counter)) × (step p (event Event.No) .port .power ≡ p .power) × (step p (event Event.No) .held ≡ Change.Nothing)
+  pub no-rejects :
+      (stateOf (step p (event Event.No) .port) ≡ State.Refusing)
+      × (step p (event Event.No) .actions .transmit ≡ controlOf Types.Reject (p .channel .counter))
+      × (step p (event Event.No) .port .power ≡ p .power)
+      × (step p (event Event.No) .held ≡ Change.Nothing)
   unfolding step eventOf happens leads changeOf turn enter
   no-rejects = rw judging (refl, refl, refl, refl)
 
@@ -318,5 +332,6 @@ module _ (p : Port) (elsewhere : same (stateOf p) State.Accepting ≡ false) whe
       (not-false (same (stateOf p) State.Accepting) elsewhere)))
 
   -- THE CLAIM: nothing else accepts
-  pub accepts-only-so : (c : Call) → stateOf (step p c .port) ≡ State.Accepting → (same (stateOf p) State.Judge ≡ true) × (c ≡ event Event.Yes)
+  pub accepts-only-so : (c : Call) → stateOf (step p c .port) ≡ State.Accepting →
+      (same (stateOf p) State.Judge ≡ true) × (c ≡ event Event.Yes)
   accepts-only-so c e = was-yes c (step p c) (shape p c) e

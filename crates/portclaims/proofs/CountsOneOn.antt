@@ -1,5 +1,5 @@
 -- Acknowledged, failed and dropped each count one on: while a message is pending, a step keeps it, or takes the counter one on, or leads to a state that starts the
--- count over (Soft, Hard, Answering, Detached). Assumes nothing.
+-- count over (Soft, Hard, Answering, Detached). (With nothing pending: NothingElseCounts.) Assumes nothing.
 use Prim.Native.Nat.{ℕ}
 use mathlib.Core.Path.{_≡_, refl, sym, ap, subst, _∙_}
 use mathlib.Core.Bool.{Bool, true, false, not, _&&_, _||_}
@@ -77,18 +77,18 @@ over-there s Way.Detached e = true-not-false (sym e)
 
 -- ---- a turn of a port whose counter has gone one on
 module _ (p q : Port) (s : State) (crc : GoodCrc) (t : Timer) (c : Change) (w : Way) (a : Asked) where
-  abbrev end : Port
+  abbrev pub end : Port
   end = turn q s crc t c w a .port
 
-  zeroed : Ways.isOver w ≡ true → end .channel .counter ≡ 0
+  pub zeroed : Ways.isOver w ≡ true → end .channel .counter ≡ 0
   unfolding turn
   zeroed e = Ways.goes w a (withChange c q) .counter ∙ rw e refl
 
-  same-counter : Ways.isOver w ≡ false → end .channel .counter ≡ q .channel .counter
+  pub same-counter : Ways.isOver w ≡ false → end .channel .counter ≡ q .channel .counter
   unfolding turn
   same-counter e = Ways.goes w a (withChange c q) .counter ∙ rw e refl ∙ ap (λ (x : Channel). x .counter) (change-channel q c)
 
-  in-over : Ways.isOver w ≡ true → startsOver (stateOf end) ≡ true
+  pub in-over : Ways.isOver w ≡ true → startsOver (stateOf end) ≡ true
   in-over e = rw (turn-state q s crc t c w a) (over-there (stateOf q) w e)
 
   counted : q .channel .counter ≡ nextId (p .channel .counter) → (b : Bool) → Ways.isOver w ≡ b → Counts p end
@@ -122,18 +122,18 @@ count-table : (s : State) (e : Stimulus) (f : Facts) → T (countTest s e f (lea
 unfolding leads
 count-table = everywhere (λ s e f. countTest s e f (leads s e f)) tt
 
-abbrev isSoft : Heard → Bool
+abbrev pub isSoft : Heard → Bool
 isSoft h = sameHeard h Heard.SoftReset
 
-abbrev softTest : State → Heard → Lead → Bool
+abbrev pub softTest : State → Heard → Lead → Bool
 softTest s h Refuse = true
 softTest s h (To way) = implies (isSoft h) (startsOver (Ways.stateAfter s way))
 
-soft-table : (s : State) (h : Heard) → T (softTest s h (onPacket s h))
+pub soft-table : (s : State) (h : Heard) → T (softTest s h (onPacket s h))
 unfolding onPacket
 soft-table = at-packets (λ s h. softTest s h (onPacket s h)) tt
 
-soft-heard : (m : Meaning) (t : ℕ) (fit : Fit) → isSoftReset m ≡ true → isSoft (heardAs m t fit) ≡ true
+pub soft-heard : (m : Meaning) (t : ℕ) (fit : Fit) → isSoftReset m ≡ true → isSoft (heardAs m t fit) ≡ true
 unfolding heardAs
 soft-heard Meaning.SoftReset t fit e = refl
 soft-heard Meaning.Unsupported t fit e = true-not-false (sym e)

@@ -11,10 +11,14 @@ pub mod Between
 pub mod AcceptExactly
 pub mod Transmissions
 pub mod CountsOneOn
+pub mod NothingElseCounts
 pub mod HeldByChange
 pub mod SlipsOfTheOldFirmware
 pub mod TimerByActions
 pub mod NeverSleeps
+pub mod FailedSends
+pub mod OffersGoOut
+pub mod UnfitIsRejected
 pub mod OfferCount
 pub mod NothingLoose
 pub mod Witnesses

@@ -1,5 +1,6 @@
 -- A port never sleeps: in every state that listens, and while a Hard Reset lasts, it is at rest with a receiver that may ask, or it waits for something that comes by itself
--- (an acknowledgement or its timer, a timer that runs, the power answer, the supply); and each of these leads it on as the paper says. Assumes nothing.
+-- (an acknowledgement or its timer, a timer that runs, the power answer, the supply); and each of these leads it on as the paper says: timers, supply and acknowledgements
+-- here, failed sends in FailedSends, offers that have not gone out in OffersGoOut, the power answer and Requests in AcceptExactly and UnfitIsRejected. Assumes nothing.
 use Prim.Native.Nat.{ℕ}
 use mathlib.Core.Path.{_≡_, refl}
 use mathlib.Core.Bool.{Bool, true, false, not, cond, _&&_, _||_}
@@ -10,7 +11,7 @@ use Rattle.meaning.specs.declared.Meaning.{Meaning}
 use Rattle.reading.specs.declared.Reading.{Reading}
 use Rattle.reading.specs.Reading.{readOf}
 use Rattle.channel.specs.Channel.{pendingId, mostRetries}
-use Rattle.channel.specs.Outcomes.{onGoodCrc, onExpiry}
+use Rattle.channel.specs.Outcomes.{onGoodCrc}
 use Rattle.power.specs.declared.Contract.{Contract}
 use Rattle.power.specs.declared.Standing.{Standing}
 use Rattle.power.specs.Power.{standingOf, changed}
@@ -25,14 +26,16 @@ use Rattle.source.proofs.Finite.{state}
 use Rattle.port.specs.declared.Port.{Port}
 use Rattle.port.specs.declared.Event.{Event}
 use Rattle.port.specs.declared.Supply.the-variants.{Position}
-use Rattle.port.specs.Memory.{stateOf, pendingIn, mostOffers}
+use Rattle.port.specs.Memory.{stateOf, pendingIn, mostOffers, detachedPort}
 use Rattle.port.specs.Entering.{enter}
 use Rattle.port.specs.Steps.{turn, happens, acknowledged, failed, resent, byOutcome, eventOf}
 use Rattle.port.specs.Packets.{meaningIn, heardAs, otherPacket, newPacket, goodCrcHeard, byMeaning, messageOf, packetOf}
 use Rattle.port.specs.Calls.{event, packet, step}
 use Rattle.portclaims.specs.Between.{implies, pends, Between}
+use Rattle.portclaims.specs.Messages.{by-timer}
 use Rattle.portclaims.proofs.Shapes.{New}
 use Rattle.portclaims.proofs.Truth.{then, and, first}
+use Rattle.portclaims.proofs.FailedSends.{again-or-failed}
 
 -- ---- what a port waits for
 abbrev atRest : State → Bool
@@ -65,21 +68,26 @@ never-sleeps p k on = by-pending (pendingIn p) (first (pends (stateOf p) (pendin
     by-pending true e = then (isOn (stateOf p) && pends (stateOf p) true) _ (waiting-pending (stateOf p)) (and (isOn (stateOf p)) (pends (stateOf p) true) on e)
     by-pending false e = then (isOn (stateOf p) && pends (stateOf p) false) _ (waiting-none (stateOf p)) (and (isOn (stateOf p)) (pends (stateOf p) false) on e)
 
+-- THE CLAIMS: where each of these leads
 -- ---- a timer that runs
 module _ (p : Port) where
-  pub offer-unanswered : stateOf p ≡ State.Offer → pendingIn p ≡ false → stateOf (step p (event Event.SenderResponse) .port) ≡ State.Hard
+  pub offer-unanswered : stateOf p ≡ State.Offer → pendingIn p ≡ false →
+      stateOf (step p (event Event.SenderResponse) .port) ≡ State.Hard
   unfolding step eventOf happens leads changeOf turn enter
   offer-unanswered s n = rw (s, n) refl
 
-  pub soft-unanswered : stateOf p ≡ State.Soft → pendingIn p ≡ false → stateOf (step p (event Event.SenderResponse) .port) ≡ State.Hard
+  pub soft-unanswered : stateOf p ≡ State.Soft → pendingIn p ≡ false →
+      stateOf (step p (event Event.SenderResponse) .port) ≡ State.Hard
   unfolding step eventOf happens leads changeOf turn enter
   soft-unanswered s n = rw (s, n) refl
 
-  pub offers-again : stateOf p ≡ State.Discovery → leb mostOffers (p .count) ≡ false → stateOf (step p (event Event.SourceCapability) .port) ≡ State.Offer
+  pub offers-again : stateOf p ≡ State.Discovery → leb mostOffers (p .count) ≡ false →
+      stateOf (step p (event Event.SourceCapability) .port) ≡ State.Offer
   unfolding step eventOf happens leads changeOf turn enter
   offers-again s n = rw (s, n) refl
 
-  pub offers-no-more : stateOf p ≡ State.Discovery → leb mostOffers (p .count) ≡ true → stateOf (step p (event Event.SourceCapability) .port) ≡ State.Disabled
+  pub offers-no-more : stateOf p ≡ State.Discovery → leb mostOffers (p .count) ≡ true →
+      stateOf (step p (event Event.SourceCapability) .port) ≡ State.Disabled
   unfolding step eventOf happens leads changeOf turn enter
   offers-no-more s n = rw (s, n) refl
 
@@ -93,37 +101,51 @@ module _ (p : Port) where
   moved s = rw s refl
 
   pub begins-anew : stateOf p ≡ State.Default →
-      (stateOf (step p (event Event.SupplyReady) .port) ≡ State.Offer) × (step p (event Event.SupplyReady) .port .power .held ≡ 0) × (step p (event Event.SupplyReady) .port .count ≡ 1) × (step p (event Event.SupplyReady) .port .connected ≡ false)
+      (stateOf (step p (event Event.SupplyReady) .port) ≡ State.Offer)
+      × (step p (event Event.SupplyReady) .port .power .held ≡ 0)
+      × (step p (event Event.SupplyReady) .port .count ≡ 1)
+      × (step p (event Event.SupplyReady) .port .connected ≡ false)
   unfolding step eventOf happens leads changeOf turn enter changed
   begins-anew s = rw s (refl, refl, refl, refl)
 
   -- ---- the pending message: its acknowledgement timer
-  pub sent-again-or-failed : pendingIn p ≡ true → (few : Bool) → ltb (p .channel .pending .retries) mostRetries ≡ few → step p (event Event.Acknowledgement) ≡ cond few (resent p) (failed p)
-  unfolding step eventOf onExpiry byOutcome
-  sent-again-or-failed on true e = rw (on, e) refl
-  sent-again-or-failed on false e = rw (on, e) refl
+  pub sent-again-or-failed : pendingIn p ≡ true → (few : Bool) → ltb (p .channel .pending .retries) mostRetries ≡ few →
+      step p (event Event.Acknowledgement) ≡ cond few (resent p) (failed p)
+  sent-again-or-failed on few e = again-or-failed p (event Event.Acknowledgement) by-timer on few e
 
   -- its GoodCRC
-  pub acknowledged-by-its-good-crc : (s : List ℕ) (n : ℕ) (f : Fields) → listens (stateOf p) ≡ true → readOf s ≡ Reading.Message n f → meaningIn n f ≡ Meaning.GoodCrc →
-      pendingIn p ≡ true → eqb (pendingId (p .channel)) (f .«message_id») ≡ true → step p (packet s) ≡ acknowledged p
+  pub acknowledged-by-its-good-crc : (s : List ℕ) (n : ℕ) (f : Fields) →
+      listens (stateOf p) ≡ true → readOf s ≡ Reading.Message n f → meaningIn n f ≡ Meaning.GoodCrc →
+      pendingIn p ≡ true → eqb (pendingId (p .channel)) (f .«message_id») ≡ true →
+      step p (packet s) ≡ acknowledged p
   unfolding step packetOf messageOf byMeaning goodCrcHeard onGoodCrc byOutcome
   acknowledged-by-its-good-crc s n f l e m on i = rw (e, l, m, on, i) refl
 
   -- where an acknowledgement leads
-  pub offer-heard : stateOf p ≡ State.Offer → (stateOf (acknowledged p .port) ≡ State.Offer) × (acknowledged p .port .count ≡ 0) × (acknowledged p .port .connected ≡ true) × (acknowledged p .actions .start ≡ SenderResponse)
+  pub offer-heard : stateOf p ≡ State.Offer →
+      (stateOf (acknowledged p .port) ≡ State.Offer)
+      × (acknowledged p .port .count ≡ 0)
+      × (acknowledged p .port .connected ≡ true)
+      × (acknowledged p .actions .start ≡ SenderResponse)
   unfolding acknowledged happens leads changeOf turn enter
   offer-heard s = rw s (refl, refl, refl, refl)
 
-  pub soft-reset-heard : stateOf p ≡ State.Soft → (stateOf (acknowledged p .port) ≡ State.Soft) × (acknowledged p .actions .start ≡ SenderResponse)
+  pub soft-reset-heard : stateOf p ≡ State.Soft →
+      (stateOf (acknowledged p .port) ≡ State.Soft)
+      × (acknowledged p .actions .start ≡ SenderResponse)
   unfolding acknowledged happens leads changeOf turn enter
   soft-reset-heard s = rw s (refl, refl)
 
-  pub accept-heard : stateOf p ≡ State.Accepting → (stateOf (acknowledged p .port) ≡ State.Moving) × (acknowledged p .actions .supply ≡ Position (p .power .accepted .position))
+  pub accept-heard : stateOf p ≡ State.Accepting →
+      (stateOf (acknowledged p .port) ≡ State.Moving)
+      × (acknowledged p .actions .supply ≡ Position (p .power .accepted .position))
   unfolding acknowledged happens leads changeOf turn enter
   accept-heard s = rw s (refl, refl)
 
   pub ready-told : stateOf p ≡ State.Telling → p .«gone_out» ≡ true →
-      (stateOf (acknowledged p .port) ≡ State.Ready) × (acknowledged p .port .power .contract ≡ Contract.Made (p .power .accepted)) × (acknowledged p .port .power .held ≡ p .power .accepted .worth)
+      (stateOf (acknowledged p .port) ≡ State.Ready)
+      × (acknowledged p .port .power .contract ≡ Contract.Made (p .power .accepted))
+      × (acknowledged p .port .power .held ≡ p .power .accepted .worth)
   unfolding acknowledged happens leads changeOf turn enter changed
   ready-told s g = rw (s, g) (refl, refl, refl)
 
@@ -131,15 +153,18 @@ module _ (p : Port) where
   unfolding acknowledged happens leads changeOf turn enter
   declined s g = rw (s, g) refl
 
-  pub rejected-without-contract : stateOf p ≡ State.Refusing → p .«gone_out» ≡ true → standingOf (p .power .contract) (p .last) ≡ Standing.NoContract → stateOf (acknowledged p .port) ≡ State.Waiting
+  pub rejected-without-contract : stateOf p ≡ State.Refusing → p .«gone_out» ≡ true → standingOf (p .power .contract) (p .last) ≡ Standing.NoContract →
+      stateOf (acknowledged p .port) ≡ State.Waiting
   unfolding acknowledged happens leads changeOf turn enter
   rejected-without-contract s g c = rw (s, c, g) refl
 
-  pub rejected-with-contract : stateOf p ≡ State.Refusing → p .«gone_out» ≡ true → standingOf (p .power .contract) (p .last) ≡ Standing.Honoured → stateOf (acknowledged p .port) ≡ State.Ready
+  pub rejected-with-contract : stateOf p ≡ State.Refusing → p .«gone_out» ≡ true → standingOf (p .power .contract) (p .last) ≡ Standing.Honoured →
+      stateOf (acknowledged p .port) ≡ State.Ready
   unfolding acknowledged happens leads changeOf turn enter
   rejected-with-contract s g c = rw (s, c, g) refl
 
-  pub rejected-and-broken : stateOf p ≡ State.Refusing → standingOf (p .power .contract) (p .last) ≡ Standing.Broken → stateOf (acknowledged p .port) ≡ State.Hard
+  pub rejected-and-broken : stateOf p ≡ State.Refusing → standingOf (p .power .contract) (p .last) ≡ Standing.Broken →
+      stateOf (acknowledged p .port) ≡ State.Hard
   unfolding acknowledged happens leads changeOf turn enter
   rejected-and-broken s c = rw (s, c) refl
 
@@ -148,15 +173,24 @@ module _ (p : Port) where
   soft-reset-answered s = rw s refl
 
   -- ---- at any time: a heard Hard Reset, without a signal of our own
-  pub hard-reset-heard : listens (stateOf p) ≡ true → (stateOf (step p (event Event.HardReset) .port) ≡ State.Hard) × (step p (event Event.HardReset) .actions .«hard_reset» ≡ false)
+  pub hard-reset-heard : listens (stateOf p) ≡ true →
+      (stateOf (step p (event Event.HardReset) .port) ≡ State.Hard)
+      × (step p (event Event.HardReset) .actions .«hard_reset» ≡ false)
   unfolding step eventOf happens leads changeOf turn enter
   hard-reset-heard l = rw l (refl, refl)
 
+  -- ---- detach: "takes any other state to Detached and clears everything but the newest offer"
+  pub detached : same (stateOf p) State.Detached ≡ false → step p (event Event.Detach) .port ≡ detachedPort (p .newest)
+  unfolding step eventOf happens leads changeOf turn enter changed
+  detached e = rw e refl
+
   -- ---- at rest: a receiver asks for the offer (and in Ready for power: AcceptExactly)
-  pub asked-in-ready : (s : List ℕ) (n : ℕ) (f : Fields) → New p s n f Meaning.GetSourceCap → stateOf p ≡ State.Ready → stateOf (step p (packet s) .port) ≡ State.Offer
+  pub asked-in-ready : (s : List ℕ) (n : ℕ) (f : Fields) → New p s n f Meaning.GetSourceCap → stateOf p ≡ State.Ready →
+      stateOf (step p (packet s) .port) ≡ State.Offer
   unfolding step packetOf messageOf byMeaning otherPacket newPacket heardAs onPacket turn enter
   asked-in-ready s n f k r = rw (k .read, k .meaning, k .fresh, r) refl
 
-  pub asked-in-waiting : (s : List ℕ) (n : ℕ) (f : Fields) → New p s n f Meaning.GetSourceCap → stateOf p ≡ State.Waiting → stateOf (step p (packet s) .port) ≡ State.Offer
+  pub asked-in-waiting : (s : List ℕ) (n : ℕ) (f : Fields) → New p s n f Meaning.GetSourceCap → stateOf p ≡ State.Waiting →
+      stateOf (step p (packet s) .port) ≡ State.Offer
   unfolding step packetOf messageOf byMeaning otherPacket newPacket heardAs onPacket turn enter
   asked-in-waiting s n f k r = rw (k .read, k .meaning, k .fresh, r) refl

@@ -1,4 +1,4 @@
--- The offer count is the number of offers since it was last cleared, and never over fifty; a port is Disabled only after fifty. Assumes nothing.
+-- The offer count is the number of offers since it was last cleared, and never over fifty; a port comes to be Disabled only after fifty. Assumes nothing.
 use Prim.Native.Nat.{ℕ, suc, min, _+_, _≤_}
 use native.Mathlib.Nat.{not-suc-le-zero}
 use native.Mathlib.Omega.{arith}
@@ -6,7 +6,7 @@ use borrow.Author.Tests.{ne-eqb}
 use mathlib.Core.Path.{_≡_, refl, sym, ap, _∙_}
 use mathlib.Core.Bool.{Bool, true, false, not, cond, _&&_, _||_}
 use mathlib.Core.List.{List, [], _∷_}
-use lib.Dec.{T, ltb, leb, eqb, nltb→le}
+use lib.Dec.{T, ltb, leb, eqb, nltb→le, leb→le}
 use Rattle.offers.specs.declared.Asked.{Asked}
 use Rattle.offers.specs.declared.Offer.{Offer}
 use Rattle.channel.specs.Channel.{mostRetries, again as once-again, heard as hears}
@@ -312,6 +312,14 @@ module _ (p : Port) (elsewhere : same (stateOf p) State.Disabled ≡ false) wher
       (sym (is-same _ State.Disabled (sym (turn-state (hearing p (f .«message_id») (isSoftReset m)) (stateOf p) (crcFor f) (runningIn p) Change.Nothing way (askedBy (fitIn p n s))) ∙ e) refl)
       ∙ not-true _ (holds _ (at-way (deafTest (stateOf p)) (onPacket (stateOf p) (heardAs m (f .«message_type») (fitIn p n s))) way l (no-packet-disables (stateOf p) (heardAs m (f .«message_type») (fitIn p n s))))))
 
-  -- THE CLAIM: who comes to be Disabled had made fifty offers
+  -- THE CLAIM: who comes to be Disabled had a count of fifty
   pub disabled-only-after-fifty : (c : Call) → stateOf (step p c .port) ≡ State.Disabled → leb mostOffers (p .count) ≡ true
   disabled-only-after-fifty c e = fifty c (step p c) (shape p c) e
+
+-- THE CLAIM: whatever calls a port has been through from the start, if it is not Disabled then and one call more makes it so, it had made fifty offers since the count
+-- was last cleared
+pub disabled-after-fifty-offers : (o : Offer) (cs : List Call) (c : Call) → same (stateOf (run (detachedPort o) cs)) State.Disabled ≡ false →
+    stateOf (step (run (detachedPort o) cs) c .port) ≡ State.Disabled → 50 ≤ offersSince 0 (detachedPort o) cs
+disabled-after-fifty-offers o cs c elsewhere e =
+    let full = leb→le mostOffers (run (detachedPort o) cs .count) (so _ (disabled-only-after-fifty (run (detachedPort o) cs) elsewhere c e)) in
+    omega (arith, full, count-is-offers o cs)

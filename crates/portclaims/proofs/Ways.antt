@@ -1,5 +1,5 @@
--- What a way does to the four facts that the states go by: the state, whether a message is pending, whether the newest offer has gone out, whether there is
--- a contract. Assumes nothing.
+-- What a way does to a port: its state, whether a message is pending, whether the newest offer has gone out, its contract and held power, its count and counter;
+-- and what goes out and which timer starts. Assumes nothing.
 use Prim.Native.Nat.{ℕ, _+_, _*_, _%_}
 use native.Mathlib.Omega.{arith}
 use mathlib.Core.Path.{_≡_, refl}

@@ -1,4 +1,5 @@
--- The offers since the count was last cleared, reckoned from the answers alone: what was put on the wire, what was acknowledged, what was given up.
+-- The offers since the count was last cleared, reckoned step by step without looking at the count: from what goes out, what is given up, and the state, pending message
+-- and retries of the port before and after.
 use Prim.Native.Nat.{ℕ, _+_}
 use mathlib.Core.Bool.{Bool, true, false, not, cond, _&&_, _||_}
 use mathlib.Core.List.{List, [], _∷_}
@@ -11,7 +12,7 @@ use Rattle.port.specs.declared.Answer.{Answer}
 use Rattle.port.specs.Memory.{stateOf, pendingIn}
 use Rattle.port.specs.Calls.{Call, step}
 
--- an offer is put on the wire: a message goes out in Offer, and not again
+-- an offer is put on the wire: a message goes out, with no retries yet, of a port that is then in Offer
 abbrev pub offerMade : Answer → Bool
 offerMade a = (ltb 0 (a .actions .transmit .length) && eqb (a .port .channel .pending .retries) 0) && same (stateOf (a .port)) State.Offer
 
