@@ -20,7 +20,7 @@ use Rattle.outgoing.specs.Packets.{onWire}
 use Rattle.port.specs.declared.Answer.{Answer}
 use Rattle.port.specs.Packets.{firstObject, meaningIn}
 use Rattle.port.specs.Calls as Port
-use Rattle.portclaims.specs.Messages.{Transmits}
+use Rattle.portclaims.specs.Messages.{Fate}
 use Rattle.portclaims.proofs.AcceptExactly.{fitting-request, its-parts}
 use Rattle.slot.specs.Load.{loadOf}
 use Rattle.slot.specs.Answers.{hasAsked, judged}
@@ -40,7 +40,7 @@ use Rattle.rackclaims.proofs.AcceptExactly.{AcceptedBy, by-request, accept-wher
 use Rattle.rackclaims.proofs.AcceptOnTheWire.{accept-is-sent, sent-only-so}
 use Rattle.rackclaims.proofs.Neighbours.{put-other, answers-by-itself, answers-by-the-rule}
 use Rattle.rackclaims.proofs.RepeatChangesNothing as Repeat
-use Rattle.rackclaims.proofs.TransmissionsInTheRack as Rack
+use Rattle.rackclaims.proofs.NothingDroppedIsRetried.{fate-in-the-rack}
 use Rattle.demands.specs.Programs.{ours, history}
 use Rattle.demands.specs.Demand2.{ReadAndWritten, StepsByTheRules, Acceptable, AcceptsExactly, RepeatsChangeNothing, NothingDroppedIsRetried, Demand2}
 use Rattle.demands.proofs.WrittenReadsBack as Written
@@ -164,7 +164,7 @@ module _ (u : SetUp) (accepted : setUp u .verdict ≡ Fine) (es : List Happens) 
       ap from (it-comes h) ∙ ap (λ s. record { verdict = a .verdict; port = s .port; actions = a .actions; held = a .held }) (at-its-place u good r k i here (a .port))
 
   retries : NothingDroppedIsRetried ours u es i
-  retries = record { made-now-or-pending = λ h. subst (Transmits (at r i .port)) (sym (seen-is h)) (Rack.made-now-or-pending u r k i here h) }
+  retries = record { fate = λ h. subst (Fate (at r i .port)) (sym (seen-is h)) (fate-in-the-rack u r k i here h) }
 
 -- THE CLAIM
 pub ours-meets-demand-2 : Demand2 ours

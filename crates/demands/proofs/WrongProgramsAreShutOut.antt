@@ -44,7 +44,7 @@ use Rattle.port.specs.Entering.{enter}
 use Rattle.port.specs.Steps.{turn, happens, acknowledged, failed, resent, byOutcome, nothingDone, eventOf}
 use Rattle.port.specs.Packets.{firstObject, meaningIn, heardAs, newPacket, otherPacket, goodCrcHeard, byMeaning, messageOf, packetOf}
 use Rattle.port.specs.Calls as Port
-use Rattle.portclaims.specs.Messages as Messages
+use Rattle.portclaims.specs.Messages.{Fate, kept, goes-again, made, gone}
 use Rattle.portclaims.proofs.Truth.{true-not-false}
 use Rattle.slot.specs.Load.{approves}
 use Rattle.slot.specs.Answers.{hasAsked, judged, settled}
@@ -277,16 +277,17 @@ keeps-the-retry-through-a-hard-reset d =
     let c = cases .survives in
     true-not-false (sym (c .1) ∙ ap (λ a. pendingIn (at (a .rack) 0 .port)) (d .steps u (cases .set-up) promised 0 at-first .by-itself (event Event.HardReset) (c .0)) ∙ c .2)
 
-by-transmission : (a : Answer) → ltb 0 (a .actions .transmit .length) ≡ true → pendingIn (a .port) ≡ false → (p : Port) → pendingIn p ≡ false → Messages.Transmits p a → ⊥
-by-transmission a some none p nothing (Messages.nothing e) = true-not-false (sym some ∙ ap (λ (m : Packet). ltb 0 (m .length)) e)
-by-transmission a some none p nothing (Messages.first f) =
+by-fate : (a : Answer) → ltb 0 (a .actions .transmit .length) ≡ true → pendingIn (a .port) ≡ false → (p : Port) → pendingIn p ≡ false → Fate p a → ⊥
+by-fate a some none p nothing (kept e same counter) = true-not-false (sym some ∙ ap (λ (m : Packet). ltb 0 (m .length)) e)
+by-fate a some none p nothing (gone e left) = true-not-false (sym some ∙ ap (λ (m : Packet). ltb 0 (m .length)) e)
+by-fate a some none p nothing (made f) =
     true-not-false (sym some ∙ sym (ap (λ (x : Pending). ltb 0 (x .packet .length)) (f .pending)) ∙ none)
-by-transmission a some none p nothing (Messages.again x) = true-not-false (sym (x .was-pending) ∙ nothing)
+by-fate a some none p nothing (goes-again x) = true-not-false (sym (x .was-pending) ∙ nothing)
 
 pub invents-a-retry : Demand2 Wrong.inventsARetry → ⊥
 invents-a-retry d =
     let c = cases .invents in
-    by-transmission (seen Wrong.inventsARetry u reset 0 (event Event.Acknowledgement)) (c .0) (c .1) (at1 Wrong.inventsARetry reset) (c .2) (d .retries u (cases .set-up) reset 0 at-first .made-now-or-pending (event Event.Acknowledgement))
+    by-fate (seen Wrong.inventsARetry u reset 0 (event Event.Acknowledgement)) (c .0) (c .1) (at1 Wrong.inventsARetry reset) (c .2) (d .retries u (cases .set-up) reset 0 at-first .fate (event Event.Acknowledgement))
 
 -- one constant reading, a refused write that changes a byte, a set-up that is never accepted
 pub reads-all-alike : Demand2 Wrong.readsAllAlike → ⊥

@@ -26,7 +26,7 @@ use Rattle.port.specs.Memory.{stateOf}
 use Rattle.port.specs.Packets.{firstObject, meaningIn}
 use Rattle.port.specs.Calls as Port
 use Rattle.portclaims.specs.Awaited.{awaitsRequest}
-use Rattle.portclaims.specs.Messages.{Transmits}
+use Rattle.portclaims.specs.Messages.{Fate}
 use Rattle.portclaims.specs.Repeats.{onlyGoodCrc, aside}
 use Rattle.slot.specs.Answers.{hasAsked, judged}
 use Rattle.rack.specs.declared.Rack.{Rack}
@@ -117,8 +117,9 @@ module _ (P : Program) (u : SetUp) (es : List Happens) (i : ℕ) where
 
   -- "A message once dropped isn't retried."
   pub record NothingDroppedIsRetried : Type 0 where
-    -- what goes out is made in that very event, or is what is pending, after fewer than two retries
-    pub made-now-or-pending : (h : Happening) → Transmits port (seen h)
+    -- what is pending stays so, just as it is, and nothing goes out; or it goes out again, after fewer than two retries; or a message is made in that very event, and goes
+    -- out; or none is left, and nothing goes out
+    pub fate : (h : Happening) → Fate port (seen h)
 
 pub record Demand2 (P : Program) : Type 0 where
   pub messages : ReadAndWritten P

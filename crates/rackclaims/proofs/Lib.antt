@@ -17,4 +17,4 @@ pub mod PortsAreStepped
 pub mod RefusalsInOrder
 pub mod RepeatChangesNothing
 pub mod HeldIsToldExactly
-pub mod TransmissionsInTheRack
+pub mod NothingDroppedIsRetried

@@ -131,7 +131,7 @@ pub record Worked : Type 0 where
       × (readOf Desk.for54000 ≡ Reading.Message 1 asksOnce)
       × (isRepeat (at desk 1 .port .channel) 0 ≡ true)
       × (aside (meaningIn 1 asksOnce) ≡ false)
-  -- TransmissionsInTheRack: port 1's Accept is pending, and goes out again
+  -- NothingDroppedIsRetried: port 1's Accept is pending, and goes out again
   pub sent-again : (pendingIn (at desk 0 .port) ≡ true) × (answerAt desk 0 (event Event.Acknowledgement) .actions .transmit ≡ at desk 0 .port .channel .pending .packet)
   -- HeldIsToldExactly: port 1 acknowledges its PS_RDY; it is detached; and Default is ready after a Hard Reset
   pub told :
