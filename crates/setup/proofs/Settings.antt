@@ -29,6 +29,10 @@ module _ (f : ℕ → Bool) where
       by-test true q rest = rw (← eqb-true i n q, e) (and-false (everywhere f i))
       by-test false q rest = rw (rest (below n i h (eqb-false i n q))) refl
 
+-- ---- a count
+no-more : (n : ℕ) → mostPorts < n → goodCount n ≡ false
+no-more n h = rw (lt-leb n mostPorts h) (and-false (leb 1 n))
+
 module _ (u : SetUp) where
   abbrev good-ports : ℕ → Bool
   good-ports n = everywhere (λ k. goodSetting (setting u k)) n
@@ -39,7 +43,7 @@ module _ (u : SetUp) where
 
   pub too-many : mostPorts < u .count → false ≡ goodSetUp u
   unfolding goodSetUp
-  too-many h = rw (lt-leb (u .count) mostPorts h, and-false (leb 1 (u .count))) refl
+  too-many h = rw (no-more (u .count) h) refl
 
   pub one-is-bad : (i : ℕ) → i < u .count → goodSetting (setting u i) ≡ false → false ≡ goodSetUp u
   unfolding goodSetUp
