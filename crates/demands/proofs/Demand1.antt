@@ -9,7 +9,7 @@ use Rattle.reading.specs.Reading.{readOf, partOf}
 use Rattle.setup.specs.SetUps.{setUp}
 use Rattle.rackclaims.proofs.RefusalsInOrder.{refused-just-so}
 use Rattle.rackclaims.proofs.RefusedChangesNothing as Changed
-use Rattle.demands.specs.Programs.{ours}
+use Rattle.demands.specs.Ours.{ours}
 use Rattle.demands.specs.Demand1.{Demand1}
 use Rattle.demands.proofs.RefusedWriteChangesNothing.{refused-changes-nothing}
 

@@ -41,7 +41,8 @@ use Rattle.rackclaims.proofs.AcceptOnTheWire.{accept-is-sent, sent-only-so}
 use Rattle.rackclaims.proofs.Neighbours.{put-other, answers-by-itself, answers-by-the-rule}
 use Rattle.rackclaims.proofs.RepeatChangesNothing as Repeat
 use Rattle.rackclaims.proofs.NothingDroppedIsRetried.{fate-in-the-rack}
-use Rattle.demands.specs.Programs.{ours, history}
+use Rattle.demands.specs.Programs.{history}
+use Rattle.demands.specs.Ours.{ours}
 use Rattle.demands.specs.Demand2.{ReadAndWritten, StepsByTheRules, Acceptable, AcceptsExactly, RepeatsChangeNothing, NothingDroppedIsRetried, Demand2}
 use Rattle.demands.proofs.WrittenReadsBack as Written
 use Rattle.demands.proofs.ReadWritesBack as Read

@@ -20,7 +20,7 @@ use Rattle.rackclaims.proofs.SupplyHolds as Supply
 use Rattle.rackclaims.proofs.HeldIsToldExactly.{told-exactly}
 use Rattle.rackclaims.proofs.AcceptExactly.{share-is-accepted}
 use Rattle.rackclaims.proofs.AcceptOnTheWire.{accept-is-sent}
-use Rattle.demands.specs.Programs.{ours}
+use Rattle.demands.specs.Ours.{ours}
 use Rattle.demands.specs.Demand3.{SupplyHolds, ShareIsGranted, HistoryIsTrue, Demand3}
 
 module _ (u : SetUp) (accepted : setUp u .verdict ≡ Fine) (es : List Happens) where

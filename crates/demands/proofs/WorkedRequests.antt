@@ -39,7 +39,8 @@ use Rattle.setup.specs.SetUps.{setting, goodSetting, goodSetUp, setUp}
 use Rattle.rackclaims.specs.NightDesk as Desk
 use Rattle.rackclaims.specs.Wire.{isOffer}
 use Rattle.rackclaims.specs.History.{historyBy, heldBy}
-use Rattle.demands.specs.Programs.{ours, rackNow}
+use Rattle.demands.specs.Programs.{rackNow}
+use Rattle.demands.specs.Ours.{ours}
 use Rattle.demands.specs.Demand2.{Acceptable}
 
 -- what came before, and the rack as it then is

@@ -3,20 +3,14 @@
 use Prim.Native.Nat.{ℕ, _<_}
 use mathlib.Core.Path.{_≡_}
 use mathlib.Core.List.{List}
-use lib.ListN.{length}
 use Rattle.ground.specs.declared.Verdict.the-variants.{Fine}
 use Rattle.message.specs.declared.Fields.{Fields}
-use Rattle.message.specs.Bytes.{bytesOf}
 use Rattle.reading.specs.declared.Reading.{Reading}
-use Rattle.reading.specs.Reading.{readOf, partOf}
 use Rattle.writing.specs.declared.Writing.{Writing}
-use Rattle.writing.specs.Writing.{writingTried, resultOf, bufferOf}
 use Rattle.rack.specs.declared.Rack.{Rack}
-use Rattle.rack.specs.Steps.{step}
 use Rattle.rack.specs.Runs.{Stepping, Happens, runBy}
 use Rattle.setup.specs.declared.SetUp.{SetUp}
 use Rattle.setup.specs.declared.Started.{Started}
-use Rattle.setup.specs.SetUps.{setUp}
 use Rattle.rackclaims.specs.History.{Entry, historyBy}
 
 pub record Program : Type 0 where
@@ -29,18 +23,6 @@ pub record Program : Type 0 where
   -- a set-up; and an event at the port of a number
   pub setUp : SetUp → Started
   pub step : Stepping
-
--- ours: what the calls promise, `reading::read` and `objects`, `writing::write`, `setup::set_up`, `rack::event`, `packet` and `new_offer`
-abbrev pub ours : Program
-ours =
-    record {
-      read = readOf;
-      part = partOf;
-      write = λ f o buf place. resultOf (writingTried f o (length buf) place) (bytesOf f o);
-      buffer = λ f o buf place. bufferOf (writingTried f o (length buf) place) (bytesOf f o) place buf;
-      setUp = setUp;
-      step = step;
-    }
 
 -- after a set-up and some events: the rack; and the history, what came and what was answered
 abbrev pub rackNow : Program → SetUp → List Happens → Rack

@@ -25,7 +25,8 @@ use Rattle.rack.specs.Ports.{at, portsIn, inRack, placeOf, total, others, put}
 use Rattle.rack.specs.Steps.{Happening, ownAnswer, turned, refusedBy, step}
 use Rattle.rack.specs.Runs.{Stepping}
 use Rattle.setup.specs.SetUps as SetUps
-use Rattle.demands.specs.Programs.{Program, ours}
+use Rattle.demands.specs.Programs.{Program}
+use Rattle.demands.specs.Ours.{ours}
 
 -- ours, stepped in another way
 abbrev steppedBy : Stepping → Program
