@@ -1,8 +1,9 @@
 -- What a field of a night comes to over a rack, and all fields one after the other: the list of answers. docs/NIGHT.md says which fields there are.
 use Prim.Native.Nat.{ℕ, zero, suc, _+_}
+use mathlib.Core.Path.{_≡_}
 use mathlib.Core.Bool.{Bool, true, false, cond}
 use mathlib.Core.List.{List, [], _∷_}
-use lib.ListN.{drop}
+use lib.ListN.{length, drop}
 use Rattle.ground.specs.declared.Verdict.{Verdict}
 use Rattle.ground.specs.declared.Verdict.the-variants.{Fine, Refused}
 use Rattle.port.specs.Memory.{noActions}
@@ -65,3 +66,8 @@ lastRack r (f ∷ fields) = lastRack (f .rack) fields
 unfoldable pub sizeOfAll : List Field → ℕ
 sizeOfAll [] = 0
 sizeOfAll (f ∷ fields) = f .size + sizeOfAll fields
+
+-- THE DEFINITION: what going through them comes to, of some bytes: the rack and the place
+pub record Through (r : Rack) (l : List ℕ) (rack : Rack) (place : ℕ) : Type 0 where
+  pub rack-is : rack ≡ lastRack r (fieldsIn (length l) r l)
+  pub place-is : place ≡ sizeOfAll (fieldsIn (length l) r l)
