@@ -6,7 +6,6 @@ mod fill;
 mod input;
 mod table;
 
-use input::Came;
 use input::Input;
 use input::ROOM;
 use libc::STDOUT_FILENO;
@@ -41,30 +40,24 @@ fn answered(buf: &mut [u8; ROOM], t: Turn, end: usize) -> Turn {
     }
 }
 
-fn over(t: Turn, i: Input) -> Turn {
-    let rack = t.rack;
-    let tally = t.tally;
-    Turn {
-        input: i,
-        rack: rack,
-        tally: tally,
-    }
-}
-
 // Reads once, and answers what can be answered of it.
 fn once(buf: &mut [u8; ROOM], t: Turn) -> Turn {
     let before = t.input;
     let came = input::read_behind(buf, before.kept);
-    match came {
-        Came::To(end) => answered(buf, t, end),
-        Came::NoMore => over(t, input::ended(buf, before)),
-        Came::Failed => over(t, input::failed(before)),
+    if before.kept < came.end {
+        return answered(buf, t, came.end);
     }
+    let mut last = t;
+    let i = input::over(buf, before, came.failed);
+    last.input = i;
+    last
 }
 
 // How the night ended, the counts, and the table.
 fn put_all(out: &mut [u8], t: Turn) -> usize {
-    let ended = input::put_end(out, 0, t.input);
+    let i = t.input;
+    let e = i.ending;
+    let ended = ending::put_ending(out, 0, e, i.failed, i.place);
     let counted = counts::put_counts(out, ended, t.tally);
     table::put_table(out, counted, t.rack)
 }
@@ -81,7 +74,7 @@ fn finish(t: Turn) {
     let mut out = io::buffer();
     let n = put_all(&mut out, t);
     let written = say(&out, n);
-    input::complain_if(t.input.failed, written);
+    input::complain(t.input.failed, written);
 }
 
 // A proved loop has to end, and nothing says that an input does: the turns are counted down from a

@@ -1,7 +1,5 @@
 // The night as it comes in, a piece of 64 KiB at a time. A field that a piece has not the whole of is kept
 // in front of the next piece.
-use crate::ending::put_ending;
-use crate::ending::put_failure;
 use fields::Ending;
 use libc::STDERR_FILENO;
 use libc::STDIN_FILENO;
@@ -24,11 +22,10 @@ pub struct Input {
     pub failed: bool,
 }
 
-// What a read brought: some bytes, up to an end; or that there are no more; or that it failed.
-pub enum Came {
-    To(usize),
-    NoMore,
-    Failed,
+// What a read brought: bytes up to an end, none where that is where it was; and whether it failed.
+pub struct Came {
+    pub end: usize,
+    pub failed: bool,
 }
 
 // Before the first set-up there is no rack: no bytes are no set-up, and setting up nothing gives a rack
@@ -51,22 +48,21 @@ pub fn begun() -> Input {
 
 // Reads once, behind the bytes that are kept.
 pub fn read_behind(buf: &mut [u8], kept: usize) -> Came {
+    let mut came = Came {
+        end: kept,
+        failed: true,
+    };
     if buf.len() < ROOM {
-        return Came::Failed;
+        return came;
     }
     if KEPT < kept {
-        return Came::Failed;
+        return came;
     }
     let got = libc::read(STDIN_FILENO, &mut buf[kept..kept + PIECE]);
-    if got < 0 {
-        return Came::Failed;
-    }
+    came.failed = got < 0;
     // No read gives more than it was asked for: the remainder changes nothing, and shows that the sum fits.
-    let n = io::count(got, buf) % (PIECE + 1);
-    if n == 0 {
-        return Came::NoMore;
-    }
-    Came::To(kept + n)
+    came.end = kept + io::count(got, buf) % (PIECE + 1);
+    came
 }
 
 // The bytes from one place to another; none where there is no such part.
@@ -78,33 +74,32 @@ pub fn part(buf: &[u8; ROOM], from: usize, to: usize) -> &[u8] {
     &all[..0]
 }
 
-// What is left of a piece is kept for the next.
-fn on(buf: &mut [u8; ROOM], place: u64, at: usize, end: usize) -> Input {
-    Input {
-        kept: fields::keep(buf, at, end),
-        place: place,
-        more: true,
-        ending: Ending::Whole,
-        failed: false,
+// Whether the night may go on with the next piece.
+fn goes_on(e: Ending) -> bool {
+    match e {
+        Ending::Whole => true,
+        Ending::Cut => true,
+        Ending::Readable => true,
+        Ending::UnknownTag => false,
+        Ending::WrongLength => false,
+        Ending::NotLaid => false,
     }
 }
 
-// How the input stands once the bytes before a place are answered, of those up to an end: it goes on unless the
-// night is damaged there.
+// How the input stands once the bytes before a place are answered, of those up to an end: what is left is kept
+// for the next piece, unless the night is damaged there.
 pub fn after(buf: &mut [u8; ROOM], before: Input, at: usize, end: usize) -> Input {
     let place = std::num::wrapping_add_u64(before.place, at as u64);
     let e = fields::ending_of(part(buf, at, end));
-    match e {
-        Ending::Whole => on(buf, place, at, end),
-        Ending::Cut => on(buf, place, at, end),
-        Ending::Readable => on(buf, place, at, end),
-        Ending::UnknownTag => stopped(place, e),
-        Ending::WrongLength => stopped(place, e),
-        Ending::NotLaid => stopped(place, e),
+    if goes_on(e) {
+        return Input {
+            kept: fields::keep(buf, at, end),
+            place: place,
+            more: true,
+            ending: Ending::Whole,
+            failed: false,
+        };
     }
-}
-
-fn stopped(place: u64, e: Ending) -> Input {
     Input {
         kept: 0,
         place: place,
@@ -114,41 +109,29 @@ fn stopped(place: u64, e: Ending) -> Input {
     }
 }
 
-// The input has ended: the night is cut where a field was begun.
-pub fn ended(buf: &[u8; ROOM], before: Input) -> Input {
-    stopped(before.place, fields::ending_of(part(buf, 0, before.kept)))
-}
-
-// The input could not be read on behind the bytes that are kept.
-pub fn failed(before: Input) -> Input {
+// The input has ended, and the night is cut where a field was begun; or it could not be read on behind the
+// bytes that are kept.
+pub fn over(buf: &[u8; ROOM], before: Input, failed: bool) -> Input {
+    let e = fields::ending_of(part(buf, 0, before.kept));
+    let mut place = before.place;
+    if failed {
+        place = std::num::wrapping_add_u64(place, before.kept as u64);
+    }
     Input {
         kept: 0,
-        place: std::num::wrapping_add_u64(before.place, before.kept as u64),
+        place: place,
         more: false,
-        ending: Ending::Whole,
-        failed: true,
+        ending: e,
+        failed: failed,
     }
 }
 
-// How the night ended, for whoever reads the answers.
-pub fn put_end(out: &mut [u8], at: usize, i: Input) -> usize {
-    if i.failed {
-        return put_failure(out, at, i.place);
-    }
-    let e = i.ending;
-    put_ending(out, at, e, i.place)
-}
-
-// A failure is said on standard error too.
-fn complain(words: &[u8]) {
-    io::write_all(STDERR_FILENO, words);
-}
-
-pub fn complain_if(failed: bool, written: bool) {
+// What failed is said on standard error too.
+pub fn complain(failed: bool, written: bool) {
     if failed {
-        complain(b"the night could not be read to its end\n");
+        io::write_all(STDERR_FILENO, b"the night could not be read to its end\n");
     }
     if !written {
-        complain(b"the answers could not be written\n");
+        io::write_all(STDERR_FILENO, b"the answers could not be written\n");
     }
 }

@@ -8,7 +8,6 @@ mod lines;
 mod table;
 mod what;
 
-use input::Came;
 use input::Input;
 use input::ROOM;
 use lines::TEXT;
@@ -47,35 +46,28 @@ fn answered(buf: &mut [u8; ROOM], out: &mut [u8; TEXT], t: Turn, end: usize) -> 
     }
 }
 
-fn over(t: Turn, i: Input) -> Turn {
-    let rack = t.rack;
-    let told = t.told;
-    Turn {
-        input: i,
-        rack: rack,
-        told: told,
-    }
-}
-
 // Reads once, and answers what can be answered of it.
 fn once(buf: &mut [u8; ROOM], out: &mut [u8; TEXT], t: Turn) -> Turn {
     let before = t.input;
     let came = input::read_behind(buf, before.kept);
-    match came {
-        Came::To(end) => answered(buf, out, t, end),
-        Came::NoMore => over(t, input::ended(buf, before)),
-        Came::Failed => over(t, input::failed(before)),
+    if before.kept < came.end {
+        return answered(buf, out, t, came.end);
     }
+    let mut last = t;
+    let i = input::over(buf, before, came.failed);
+    last.input = i;
+    last
 }
 
 // How the night ended, and the table.
 fn finish(out: &mut [u8; TEXT], t: Turn) {
     let i = t.input;
     let mut told = t.told;
-    let ended = input::put_end(out, told.end, i);
+    let e = i.ending;
+    let ended = ending::put_ending(out, told.end, e, i.failed, i.place);
     told.end = table::put_table(out, ended, t.rack);
     let last = told.say(out);
-    input::complain_if(i.failed, last.written);
+    input::complain(i.failed, last.written);
 }
 
 // A proved loop has to end, and nothing says that an input does: the turns are counted down from a
