@@ -1,6 +1,8 @@
 pub mod WholeFields
 pub mod PiecesChangeNothing
 pub mod PlaceCountsOn
+pub mod WhereItStops
+pub mod FieldByField
 pub mod EventByEvent
 pub mod SetUpComesFirst
 pub mod SupplyHoldsThroughTheNight

@@ -19,7 +19,7 @@ use Rattle.nightclaims.proofs.WholeFields.{readable-is-whole, whole-fit
 
 -- ---- a field that is read leaves less
 module _ (l : List ℕ) (r : isReadable (nextOf l) l ≡ true) where
-  read-fits : sizeOf l ≤ length l
+  pub read-fits : sizeOf l ≤ length l
   read-fits = whole-fits l (readable-is-whole l r)
 
   leaves-less : length (drop (sizeOf l) l) < length l
@@ -54,7 +54,7 @@ first-field p l e =
     ∙ rw e (enough (length l) (length (drop (sizeOf l) l)) (fieldDone (nextOf l) p l) (drop (sizeOf l) l) (omega (arith, leaves-less l e)) (le-refl _))
 
 -- ---- the place
-moves-on : (found : Found) (p : Played) (l : List ℕ) → isReadable found l ≡ true → fieldDone found p l .at ≡ p .at + sizeOf l
+pub moves-on : (found : Found) (p : Played) (l : List ℕ) → isReadable found l ≡ true → fieldDone found p l .at ≡ p .at + sizeOf l
 unfolding setUpDone eventDone answered
 moves-on Found.Cut p l e = true-not-false (sym e)
 moves-on Found.UnknownTag p l e = true-not-false (sym e)

@@ -1,3 +1,4 @@
 pub mod Pieces
 pub mod Happened
+pub mod Answered
 pub mod InSupply

@@ -34,7 +34,7 @@ use Rattle.tally.specs.declared.Tally.{Tally}
 use Rattle.tally.specs.Counts.{told, setUpTold}
 use Rattle.playing.specs.declared.Played.{Played}
 use Rattle.playing.specs.Nights.{begun, stateAt, heldAt, answered, eventDone, rackAfter, isAccepted, setUpDone, fieldDone, isReadable, nightIn, isEvent, isSetUp, numberIn, happeningIn, steppedBy}
-use Rattle.playing.specs.Meeting.{Small}
+use Rattle.playing.specs.Meeting.{heldBy, Small}
 use Rattle.playing.proofs.Sums.{rackIn, weighs, small-still, sum-still}
 
 -- ---- one field of the definition
@@ -127,15 +127,12 @@ module _ (r : Rack) (tally : Tally) (place number : ℕ) (h : Happening) (f : Li
   answered-there a e inside q = rw (answered-step a e q) (rw (e, getD-set-same (r .slots) (placeOf number) (record { port = a .port; share = at r (placeOf number) .share; limit = at r (placeOf number) .limit }) nobody inside) refl)
 
 -- ---- what holds at the loop's head
-abbrev pub held : List Slot → ℕ → ℕ → Tally → ℕ → Played
-held slots count supply tally place = record { rack = rackIn slots count supply; tally = tally; at = place }
-
 pub record Kept (r : Rack) (t : Tally) (s : List ℕ) (slots : List Slot) (count supply sum : ℕ) (tally : Tally) (place left : ℕ) : Type 0 where
   pub within : place ≤ length s
   pub long : length slots ≡ mostPorts
   pub small : Small (rackIn slots count supply)
   pub sum-is : sum ≡ loads (rackIn slots count supply)
-  pub rest : nightIn (length s) (begun r t) s ≡ nightIn left (held slots count supply tally place) (drop place s)
+  pub rest : nightIn (length s) (begun r t) s ≡ nightIn left (heldBy slots count supply tally place) (drop place s)
 
 module _ {r : Rack} {t : Tally} {s : List ℕ} {slots : List Slot} {count supply sum : ℕ} {tally : Tally} {place left : ℕ}
     (inv : Kept r t s slots count supply sum tally place left)
@@ -154,18 +151,18 @@ module _ {r : Rack} {t : Tally} {s : List ℕ} {slots : List Slot} {count supply
   set-up-reaches e = reaches (set-up-whole f (ap isSetUp (sym isfound) ∙ e))
 
   -- the loop ends here
-  stops : isReadable found f ≡ false → held slots count supply tally place ≡ nightIn (length s) (begun r t) s
-  stops e = sym (inv .rest ∙ read-no-more left (held slots count supply tally place) (drop place s) (subst (λ (l : List ℕ). isReadable (nextOf l) l ≡ false) isf (subst (λ (x : Found). isReadable x f ≡ false) isfound e)))
+  stops : isReadable found f ≡ false → heldBy slots count supply tally place ≡ nightIn (length s) (begun r t) s
+  stops e = sym (inv .rest ∙ read-no-more left (heldBy slots count supply tally place) (drop place s) (subst (λ (l : List ℕ). isReadable (nextOf l) l ≡ false) isf (subst (λ (x : Found). isReadable x f ≡ false) isfound e)))
 
-  pub stops-unlaid : isSetUp found ≡ true → setUpIn f .whole ≡ false → held slots count supply tally place ≡ nightIn (length s) (begun r t) s
+  pub stops-unlaid : isSetUp found ≡ true → setUpIn f .whole ≡ false → heldBy slots count supply tally place ≡ nightIn (length s) (begun r t) s
   stops-unlaid e k = stops (unlaid found f e k)
 
-  pub stops-unread : isEvent found ≡ false → isSetUp found ≡ false → held slots count supply tally place ≡ nightIn (length s) (begun r t) s
+  pub stops-unread : isEvent found ≡ false → isSetUp found ≡ false → heldBy slots count supply tally place ≡ nightIn (length s) (begun r t) s
   stops-unread e k = stops (unreadable found f e k)
 
   -- the loop goes on, with what the field came to
   goes-on : isReadable found f ≡ true → place + sizeOf f ≤ length s → (slots′ : List Slot) (count′ supply′ sum′ : ℕ) (tally′ : Tally) →
-      fieldDone found (held slots count supply tally place) f ≡ held slots′ count′ supply′ tally′ (place + sizeOf f) →
+      fieldDone found (heldBy slots count supply tally place) f ≡ heldBy slots′ count′ supply′ tally′ (place + sizeOf f) →
       length slots′ ≡ mostPorts → Small (rackIn slots′ count′ supply′) → sum′ ≡ loads (rackIn slots′ count′ supply′) →
       Kept r t s slots′ count′ supply′ sum′ tally′ (place + sizeOf f) (left - 1)
   goes-on e h slots′ count′ supply′ sum′ tally′ done l k m =
@@ -177,23 +174,23 @@ module _ {r : Rack} {t : Tally} {s : List ℕ} {slots : List Slot} {count supply
         sum-is = m;
         rest =
             inv .rest
-            ∙ ap (nightIn left (held slots count supply tally place)) (sym isf)
-            ∙ read-on left (held slots count supply tally place) f more readable
-            ∙ ap (λ (x : Found). nightIn (left - 1) (fieldDone x (held slots count supply tally place) f) (drop (sizeOf f) f)) (sym isfound)
+            ∙ ap (nightIn left (heldBy slots count supply tally place)) (sym isf)
+            ∙ read-on left (heldBy slots count supply tally place) f more readable
+            ∙ ap (λ (x : Found). nightIn (left - 1) (fieldDone x (heldBy slots count supply tally place) f) (drop (sizeOf f) f)) (sym isfound)
             ∙ ap (λ (p : Played). nightIn (left - 1) p (drop (sizeOf f) f)) done
-            ∙ ap (nightIn (left - 1) (held slots′ count′ supply′ tally′ (place + sizeOf f))) (ap (drop (sizeOf f)) isf ∙ drop-drop (sizeOf f) place s);
+            ∙ ap (nightIn (left - 1) (heldBy slots′ count′ supply′ tally′ (place + sizeOf f))) (ap (drop (sizeOf f)) isf ∙ drop-drop (sizeOf f) place s);
       }
 
   -- an event at a number that is not in the rack
   module _ (e : isEvent found ≡ true) (number : ℕ) (isnumber : number ≡ numberIn found) where
-    by-number : fieldDone found (held slots count supply tally place) f ≡ eventDone (held slots count supply tally place) number (happeningIn found f) f
-    by-number = event-done found (held slots count supply tally place) f e ∙ ap (λ (n : ℕ). eventDone (held slots count supply tally place) n (happeningIn found f) f) (sym isnumber)
+    by-number : fieldDone found (heldBy slots count supply tally place) f ≡ eventDone (heldBy slots count supply tally place) number (happeningIn found f) f
+    by-number = event-done found (heldBy slots count supply tally place) f e ∙ ap (λ (n : ℕ). eventDone (heldBy slots count supply tally place) n (happeningIn found f) f) (sym isnumber)
 
     pub absent : inRack (rackIn slots count supply) number ≡ false → (tally′ : Tally) → tally′ ≡ told tally number (Refused NotInRack) noActions State.Detached State.Detached 0 →
         Kept r t s slots count supply sum tally′ (place + sizeOf f) (left - 1)
     absent k tally′ q =
         goes-on (event-readable found f e) (event-reaches e) slots count supply sum tally′
-        (by-number ∙ refused-there (rackIn slots count supply) tally place number (happeningIn found f) f k ∙ ap (λ (x : Tally). held slots count supply x (place + sizeOf f)) (sym q))
+        (by-number ∙ refused-there (rackIn slots count supply) tally place number (happeningIn found f) f k ∙ ap (λ (x : Tally). heldBy slots count supply x (place + sizeOf f)) (sym q))
         (inv .long) (inv .small) (inv .sum-is)
 
     -- an event at a port of the rack
@@ -229,7 +226,7 @@ module _ {r : Rack} {t : Tally} {s : List ℕ} {slots : List Slot} {count supply
     laid : isReadable found f ≡ true
     laid = rw (is-set-up found e) whole
 
-    set-up-there : (v : Verdict) → started .verdict ≡ v → fieldDone found (held slots count supply tally place) f ≡ record { rack = rackAfter v (started .rack) (rackIn slots count supply); tally = tally′; at = place + sizeOf f }
+    set-up-there : (v : Verdict) → started .verdict ≡ v → fieldDone found (heldBy slots count supply tally place) f ≡ record { rack = rackAfter v (started .rack) (rackIn slots count supply); tally = tally′; at = place + sizeOf f }
     unfolding setUpDone
     set-up-there v q = rw (is-set-up found e, ← isstarted, ← istally, ← q) refl
 

@@ -11,6 +11,8 @@ use Rattle.rack.specs.Ports.{at, portsIn}
 use Rattle.night.specs.declared.Found.{Found}
 use Rattle.night.specs.Events.{behindOf, offerOf}
 use Rattle.plan.specs.declared.Met.{Met}
+use Rattle.tally.specs.declared.Tally.{Tally}
+use Rattle.playing.specs.declared.Played.{Played}
 use Rattle.plan.specs.Plans.{metEvent, metPacket, metOffer}
 
 abbrev pub metIn : Slot → Found → List ℕ → Met
@@ -35,3 +37,7 @@ offerIn p (Found.NewOffer number) l = offerOf l
 -- no port takes more than a number of four bytes can say
 abbrev pub Small : Rack → Type 0
 Small r = (k : ℕ) → k < portsIn r → loadOf (at r k) < 4294967296
+
+-- what the loop holds, as it is handed back
+abbrev pub heldBy : List Slot → ℕ → ℕ → Tally → ℕ → Played
+heldBy slots count supply tally place = record { rack = record { slots = slots; count = count; supply = supply }; tally = tally; at = place }

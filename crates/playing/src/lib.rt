@@ -13,7 +13,7 @@ ghost use Rattle.port.specs.Memory.{stateOf, noActions};
 ghost use Rattle.rack.specs.Ports.{mostPorts, loads};
 ghost use Rattle.tally.specs.Counts.{told};
 ghost use Rattle.playing.specs.Nights.{begun, isAccepted, nightIn};
-ghost use Rattle.playing.specs.Meeting.{Small};
+ghost use Rattle.playing.specs.Meeting.{heldBy, Small};
 use ground::Refusal;
 use ground::Verdict;
 use outgoing::Packet;
@@ -127,6 +127,22 @@ fn moved(total: u64, was: u32, is: u32) -> u64
     total - was as u64 + is as u64
 }
 
+// What the loop holds, as it is handed back.
+fn held(slots: [Slot; PORTS], count: u8, supply: u32, tally: Tally, at: usize) -> Played
+    ensures { λ p. ⌜ p ≡ heldBy slots count supply tally at ⌝ }
+{
+    let rack = Rack {
+        slots: slots,
+        count: count,
+        supply: supply,
+    };
+    Played {
+        rack: rack,
+        tally: tally,
+        at: at,
+    }
+}
+
 // The fields of a night, from the first on up to one that cannot be read.
 pub fn night(r: Rack, t: Tally, s: &[u8]) -> Played
     ensures { λ p. ⌜ p ≡ nightIn (length (now (s .entry))) (begun r t) (now (s .entry)) ⌝ }
@@ -184,26 +200,9 @@ pub fn night(r: Rack, t: Tally, s: &[u8]) -> Played
                 }
                 continue;
             }
+            return held(slots, count, supply, tally, at);
         }
-        let rack = Rack {
-            slots: slots,
-            count: count,
-            supply: supply,
-        };
-        return Played {
-            rack: rack,
-            tally: tally,
-            at: at,
-        };
+        return held(slots, count, supply, tally, at);
     }
-    let rack = Rack {
-        slots: slots,
-        count: count,
-        supply: supply,
-    };
-    Played {
-        rack: rack,
-        tally: tally,
-        at: at,
-    }
+    held(slots, count, supply, tally, at)
 }

@@ -28,49 +28,53 @@ fn begun() -> Turn {
     }
 }
 
-// Reads once, and answers what can be answered of it.
-fn once(buf: &mut [u8; ROOM], t: Turn) -> Turn {
-    let before = t.input;
-    let end = input::read_behind(buf, before.kept);
-    if end == before.kept {
-        let rack = t.rack;
-        let tally = t.tally;
-        return Turn {
-            input: input::ended(before),
-            rack: rack,
-            tally: tally,
-        };
-    }
+// Answers the bytes up to an end.
+fn answered(buf: &mut [u8; ROOM], t: Turn, end: usize) -> Turn {
     let p = playing::night(t.rack, t.tally, input::part(buf, 0, end));
     let rack = p.rack;
     let tally = p.tally;
     Turn {
-        input: input::after(buf, before, p.at, end),
+        input: input::after(buf, t.input, p.at, end),
         rack: rack,
         tally: tally,
     }
 }
 
-// How the night ended, the counts, and the table.
-fn put_end(out: &mut [u8], t: Turn) -> usize {
+// Reads once, and answers what can be answered of it.
+fn once(buf: &mut [u8; ROOM], t: Turn) -> Turn {
     let before = t.input;
-    let e = before.ending;
-    let told = ending::put_ending(out, 0, e, before.place);
-    let counted = counts::put_counts(out, told, t.tally);
+    let came = input::read_behind(buf, before.kept);
+    if before.kept < came.end {
+        return answered(buf, t, came.end);
+    }
+    let mut last = t;
+    let i = input::over(buf, before, came.failed);
+    last.input = i;
+    last
+}
+
+// How the night ended, the counts, and the table.
+fn put_all(out: &mut [u8], t: Turn) -> usize {
+    let i = t.input;
+    let e = i.ending;
+    let ended = ending::put_ending(out, 0, e, i.failed, i.place);
+    let counted = counts::put_counts(out, ended, t.tally);
     table::put_table(out, counted, t.rack)
 }
 
-// Writes the first so many bytes.
-fn say(out: &[u8], n: usize) {
+// Writes the first so many bytes, and says whether that could be done.
+fn say(out: &[u8], n: usize) -> bool {
     if n <= out.len() {
-        io::write_all(STDOUT_FILENO, &out[0..n]);
+        return io::write_all(STDOUT_FILENO, &out[0..n]);
     }
+    false
 }
 
 fn finish(t: Turn) {
     let mut out = io::buffer();
-    let n = put_end(&mut out, t);
-    say(&out, n);
+    let n = put_all(&mut out, t);
+    let written = say(&out, n);
+    input::complain(t.input.failed, written);
 }
 
 // A proved loop has to end, and nothing says that an input does: the turns are counted down from a

@@ -1,7 +1,7 @@
 // The night as it comes in, a piece of 64 KiB at a time. A field that a piece has not the whole of is kept
 // in front of the next piece.
-use crate::ending::Ending;
-use crate::ending::ending_of;
+use fields::Ending;
+use libc::STDERR_FILENO;
 use libc::STDIN_FILENO;
 use rack::Rack;
 
@@ -16,9 +16,16 @@ pub struct Input {
     // How many bytes are kept, and the place of the first of them in the file.
     pub kept: usize,
     pub place: u64,
-    // Whether to read on; where not, how the night ended.
+    // Whether to read on; where not, how the night ended, and whether reading on failed.
     pub more: bool,
     pub ending: Ending,
+    pub failed: bool,
+}
+
+// What a read brought: bytes up to an end, none where that is where it was; and whether it failed.
+pub struct Came {
+    pub end: usize,
+    pub failed: bool,
 }
 
 // Before the first set-up there is no rack: no bytes are no set-up, and setting up nothing gives a rack
@@ -35,20 +42,27 @@ pub fn begun() -> Input {
         place: 0,
         more: true,
         ending: Ending::Whole,
+        failed: false,
     }
 }
 
-// Reads once, behind the bytes that are kept: how many there then are; no more where the input has ended.
-pub fn read_behind(buf: &mut [u8], kept: usize) -> usize {
+// Reads once, behind the bytes that are kept.
+pub fn read_behind(buf: &mut [u8], kept: usize) -> Came {
+    let mut came = Came {
+        end: kept,
+        failed: true,
+    };
     if buf.len() < ROOM {
-        return kept;
+        return came;
     }
     if KEPT < kept {
-        return kept;
+        return came;
     }
     let got = libc::read(STDIN_FILENO, &mut buf[kept..kept + PIECE]);
+    came.failed = got < 0;
     // No read gives more than it was asked for: the remainder changes nothing, and shows that the sum fits.
-    kept + io::count(got, buf) % (PIECE + 1)
+    came.end = kept + io::count(got, buf) % (PIECE + 1);
+    came
 }
 
 // The bytes from one place to another; none where there is no such part.
@@ -60,53 +74,64 @@ pub fn part(buf: &[u8; ROOM], from: usize, to: usize) -> &[u8] {
     &all[..0]
 }
 
-// Moves bytes to the front, and hands back how many they are.
-fn keep(buf: &mut [u8; ROOM], at: usize, end: usize) -> usize {
-    let mut from = at;
-    let mut i: usize = 0;
-    while from < end {
-        if ROOM <= from {
-            return i;
-        }
-        buf[i] = buf[from];
-        i += 1;
-        from += 1;
+// Whether the night may go on with the next piece.
+fn goes_on(e: Ending) -> bool {
+    match e {
+        Ending::Whole => true,
+        Ending::Cut => true,
+        Ending::Readable => true,
+        Ending::UnknownTag => false,
+        Ending::WrongLength => false,
+        Ending::NotLaid => false,
     }
-    i
 }
 
 // How the input stands once the bytes before a place are answered, of those up to an end: what is left is kept
 // for the next piece, unless the night is damaged there.
 pub fn after(buf: &mut [u8; ROOM], before: Input, at: usize, end: usize) -> Input {
     let place = std::num::wrapping_add_u64(before.place, at as u64);
-    let e = ending_of(part(buf, at, end));
-    match e {
-        Ending::Cut => Input {
-            kept: keep(buf, at, end),
+    let e = fields::ending_of(part(buf, at, end));
+    if goes_on(e) {
+        return Input {
+            kept: fields::keep(buf, at, end),
             place: place,
             more: true,
             ending: Ending::Whole,
-        },
-        Ending::Whole => stopped(place, e),
-        Ending::UnknownTag => stopped(place, e),
-        Ending::WrongLength => stopped(place, e),
-        Ending::NotLaid => stopped(place, e),
+            failed: false,
+        };
     }
-}
-
-fn stopped(place: u64, e: Ending) -> Input {
     Input {
         kept: 0,
         place: place,
         more: false,
         ending: e,
+        failed: false,
     }
 }
 
-// The input has ended: the night is cut where a field was begun.
-pub fn ended(before: Input) -> Input {
-    if 0 < before.kept {
-        return stopped(before.place, Ending::Cut);
+// The input has ended, and the night is cut where a field was begun; or it could not be read on behind the
+// bytes that are kept.
+pub fn over(buf: &[u8; ROOM], before: Input, failed: bool) -> Input {
+    let e = fields::ending_of(part(buf, 0, before.kept));
+    let mut place = before.place;
+    if failed {
+        place = std::num::wrapping_add_u64(place, before.kept as u64);
     }
-    stopped(before.place, Ending::Whole)
+    Input {
+        kept: 0,
+        place: place,
+        more: false,
+        ending: e,
+        failed: failed,
+    }
+}
+
+// What failed is said on standard error too.
+pub fn complain(failed: bool, written: bool) {
+    if failed {
+        io::write_all(STDERR_FILENO, b"the night could not be read to its end\n");
+    }
+    if !written {
+        io::write_all(STDERR_FILENO, b"the answers could not be written\n");
+    }
 }

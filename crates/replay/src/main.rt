@@ -2,63 +2,72 @@
 // end. docs/NIGHT.md has the file, docs/REPLAY.md what is written.
 mod answer;
 mod ending;
-mod fields;
 mod fill;
 mod input;
+mod lines;
 mod table;
 mod what;
 
-use fields::Course;
-use fields::TEXT;
 use input::Input;
 use input::ROOM;
+use lines::TEXT;
+use lines::Told;
+use rack::Rack;
 
 struct Turn {
     input: Input,
-    course: Course,
+    rack: Rack,
+    told: Told,
 }
 
 fn begun() -> Turn {
     let rack = input::no_rack();
-    let course = Course {
-        rack: rack,
+    let told = Told {
         events: 0,
-        at: 0,
-        read: true,
         end: 0,
+        written: true,
     };
     Turn {
         input: input::begun(),
-        course: course,
+        rack: rack,
+        told: told,
+    }
+}
+
+// Answers the bytes up to an end.
+fn answered(buf: &mut [u8; ROOM], out: &mut [u8; TEXT], t: Turn, end: usize) -> Turn {
+    let reached = lines::run(out, t.rack, t.told, input::part(buf, 0, end));
+    let rack = reached.rack;
+    let told = reached.told;
+    Turn {
+        input: input::after(buf, t.input, reached.at, end),
+        rack: rack,
+        told: told,
     }
 }
 
 // Reads once, and answers what can be answered of it.
 fn once(buf: &mut [u8; ROOM], out: &mut [u8; TEXT], t: Turn) -> Turn {
     let before = t.input;
-    let course = t.course;
-    let end = input::read_behind(buf, before.kept);
-    if end == before.kept {
-        return Turn {
-            input: input::ended(before),
-            course: course,
-        };
+    let came = input::read_behind(buf, before.kept);
+    if before.kept < came.end {
+        return answered(buf, out, t, came.end);
     }
-    let reached = fields::run(out, course, input::part(buf, 0, end));
-    Turn {
-        input: input::after(buf, before, reached.at, end),
-        course: reached,
-    }
+    let mut last = t;
+    let i = input::over(buf, before, came.failed);
+    last.input = i;
+    last
 }
 
 // How the night ended, and the table.
 fn finish(out: &mut [u8; TEXT], t: Turn) {
-    let before = t.input;
-    let course = t.course;
-    let e = before.ending;
-    let told = ending::put_ending(out, course.end, e, before.place);
-    let end = table::put_table(out, told, course.rack);
-    fields::say(out, end);
+    let i = t.input;
+    let mut told = t.told;
+    let e = i.ending;
+    let ended = ending::put_ending(out, told.end, e, i.failed, i.place);
+    told.end = table::put_table(out, ended, t.rack);
+    let last = told.say(out);
+    input::complain(i.failed, last.written);
 }
 
 // A proved loop has to end, and nothing says that an input does: the turns are counted down from a
@@ -71,7 +80,7 @@ fn main() {
     let mut more = true;
     while turns > 0 && more {
         t = once(&mut buf, &mut out, t);
-        more = t.input.more;
+        more = t.input.more & t.told.written;
         turns -= 1;
     }
     finish(&mut out, t);

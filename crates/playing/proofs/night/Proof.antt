@@ -9,8 +9,9 @@ use Rattle.ground.proofs.Parts.{rest}
 use Rattle.rack.proofs.Loads.{from-one, place-in-slots, long}
 use Rattle.setup.specs.SetUps.{setUp}
 use Rattle.night.specs.declared.Laid.{Laid}
+use Rattle.playing.specs.Meeting.{heldBy}
 use Rattle.playing.proofs.Sums.{rackIn}
-use Rattle.playing.proofs.Kept.{Kept, held, none-left, stops-unlaid, stops-unread, event-reaches, set-up-reaches, absent, can-weigh, present, refused-set-up, accepted-set-up}
+use Rattle.playing.proofs.Kept.{Kept, none-left, stops-unlaid, stops-unread, event-reaches, set-up-reaches, absent, can-weigh, present, refused-set-up, accepted-set-up}
 use Rattle.playing.proofs.night.Statement.{statement}
 use Rattle.playing.proofs.night.Tie as tie
 
@@ -68,6 +69,9 @@ night-spec =
     (λ c. rw (c .before .before .before .before .before .before .before .before .size2 .ensures) (accepted-set-up (c .before .before .before .before .before .before .before .before .before .before .before .before .before .before .before .before .before .before .loop .inv) (c .before .before .before .before .before .before .before .before .before .before .before .before .before .before .before .before .before .loop-test .taken) _ (rest (c .before .before .before .before .before .before .before .before .before .before .before .before .before .before .before .before .before .before .loop .at) (now (c .before .before .before .before .before .before .before .before .before .before .before .before .before .before .before .before .before .before .before .before .before .before .args .s))) (c .before .before .before .before .before .before .before .before .before .before .before .before .before .before .before .next .result) (c .before .before .before .before .before .before .before .before .before .before .before .before .before .before .before .next .ensures) (sym (c .before .before .before .before .before .before .before .before .before .before .before .before .is-set-up .ensures) ∙ c .before .before .before .before .before .before .before .before .before .before .before .if3 .taken) (ap (λ (x : Laid). x .whole) (sym (c .before .before .before .before .before .before .before .before .before .before .set-up .ensures)) ∙ c .before .before .before .before .before .before .before .before .before .if4 .taken) (c .before .before .before .before .before .before .set-up3 .result) (c .before .before .before .before .before .before .set-up3 .ensures ∙ ap (λ (x : Laid). setUp (x .«set_up»)) (c .before .before .before .before .before .before .before .before .before .before .set-up .ensures)) (c .before .before .before .before .before .set-up-told .result) (c .before .before .before .before .before .set-up-told .ensures) (sym (c .before .before .before .before .is-accepted .ensures) ∙ c .before .before .before .if5 .taken) (c .summed2 .result) (search (needs, long) depth 7) (c .summed2 .ensures)))
     (λ c. let h : 0 < c .before .before .before .before .before .before .before .before .before .before .before .before .before .before .before .loop .left = c .before .before .before .before .before .before .before .before .before .before .before .before .before .before .loop-test .taken in omega arith)
     (λ c. rw (c .before .before .before .before .before .size2 .ensures) (refused-set-up (c .before .before .before .before .before .before .before .before .before .before .before .before .before .before .before .loop .inv) (c .before .before .before .before .before .before .before .before .before .before .before .before .before .before .loop-test .taken) _ (rest (c .before .before .before .before .before .before .before .before .before .before .before .before .before .before .before .loop .at) (now (c .before .before .before .before .before .before .before .before .before .before .before .before .before .before .before .before .before .before .before .args .s))) (c .before .before .before .before .before .before .before .before .before .before .before .before .next .result) (c .before .before .before .before .before .before .before .before .before .before .before .before .next .ensures) (sym (c .before .before .before .before .before .before .before .before .before .is-set-up .ensures) ∙ c .before .before .before .before .before .before .before .before .if3 .taken) (ap (λ (x : Laid). x .whole) (sym (c .before .before .before .before .before .before .before .set-up .ensures)) ∙ c .before .before .before .before .before .before .if4 .taken) (c .before .before .before .set-up3 .result) (c .before .before .before .set-up3 .ensures ∙ ap (λ (x : Laid). setUp (x .«set_up»)) (c .before .before .before .before .before .before .before .set-up .ensures)) (c .before .before .set-up-told .result) (c .before .before .set-up-told .ensures) (sym (c .before .is-accepted .ensures) ∙ c .if5 .left)))
-    (λ c. stops-unlaid (c .before .before .before .before .before .before .before .before .before .loop .inv) (c .before .before .before .before .before .before .before .before .loop-test .taken) _ (rest (c .before .before .before .before .before .before .before .before .before .loop .at) (now (c .before .before .before .before .before .before .before .before .before .before .before .before .before .args .s))) (c .before .before .before .before .before .before .next .result) (c .before .before .before .before .before .before .next .ensures) (sym (c .before .before .before .is-set-up .ensures) ∙ c .before .before .if3 .taken) (ap (λ (x : Laid). x .whole) (sym (c .before .set-up .ensures)) ∙ c .if4 .left))
-    (λ c. stops-unread (c .before .before .before .before .before .before .before .loop .inv) (c .before .before .before .before .before .before .loop-test .taken) _ (rest (c .before .before .before .before .before .before .before .loop .at) (now (c .before .before .before .before .before .before .before .before .before .before .before .args .s))) (c .before .before .before .before .next .result) (c .before .before .before .before .next .ensures) (sym (c .before .before .before .is-event .ensures) ∙ c .before .before .if1 .left) (sym (c .before .is-set-up .ensures) ∙ c .if3 .left))
-    (λ c. sym (c .before .loop .inv .rest ∙ none-left (c .before .loop .left) (held (c .before .loop .slots) (c .before .loop .count) (c .before .loop .supply) (c .before .loop .tally) (c .before .loop .at)) (drop (c .before .loop .at) (now (c .before .before .before .before .before .args .s))) (c .loop-test .left))))
+    (λ c κs. search needs)
+    (λ c. c .held .ensures ∙ stops-unlaid (c .before .before .before .before .before .before .before .before .before .before .loop .inv) (c .before .before .before .before .before .before .before .before .before .loop-test .taken) _ (rest (c .before .before .before .before .before .before .before .before .before .before .loop .at) (now (c .before .before .before .before .before .before .before .before .before .before .before .before .before .before .args .s))) (c .before .before .before .before .before .before .before .next .result) (c .before .before .before .before .before .before .before .next .ensures) (sym (c .before .before .before .before .is-set-up .ensures) ∙ c .before .before .before .if3 .taken) (ap (λ (x : Laid). x .whole) (sym (c .before .before .set-up .ensures)) ∙ c .before .if4 .left))
+    (λ c κs. search needs)
+    (λ c. c .held2 .ensures ∙ stops-unread (c .before .before .before .before .before .before .before .before .loop .inv) (c .before .before .before .before .before .before .before .loop-test .taken) _ (rest (c .before .before .before .before .before .before .before .before .loop .at) (now (c .before .before .before .before .before .before .before .before .before .before .before .before .args .s))) (c .before .before .before .before .before .next .result) (c .before .before .before .before .before .next .ensures) (sym (c .before .before .before .before .is-event .ensures) ∙ c .before .before .before .if1 .left) (sym (c .before .before .is-set-up .ensures) ∙ c .before .if3 .left))
+    (λ c κs. search needs)
+    (λ c. c .held3 .ensures ∙ sym (c .before .before .loop .inv .rest ∙ none-left (c .before .before .loop .left) (heldBy (c .before .before .loop .slots) (c .before .before .loop .count) (c .before .before .loop .supply) (c .before .before .loop .tally) (c .before .before .loop .at)) (drop (c .before .before .loop .at) (now (c .before .before .before .before .before .before .args .s))) (c .before .loop-test .left))))

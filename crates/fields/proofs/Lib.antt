@@ -1,0 +1,4 @@
+pub mod Answers
+pub mod Keeping
+pub mod Through
+pub mod NothingLoose
