@@ -1,12 +1,15 @@
--- Bytes moved to the front of a buffer one by one: what holds at the loop's head, and how a turn keeps it. Assumes nothing.
-use Prim.Native.Nat.{ℕ, zero, suc, _+_, _-_, _<_, _≤_}
+-- What is left of a piece. Bytes moved to the front of a buffer one by one: what holds at the loop's head, and how a turn keeps it. Assumes nothing.
+use Prim.Native.Nat.{ℕ, zero, suc, _+_, _-_, _<_, _≤_, min}
 use native.Mathlib.Omega.{arith}
 use native.Mathlib.Nat.{zero-add}
 use mathlib.Core.Path.{_≡_, refl, sym, ap, _∙_}
-use mathlib.Core.List.{List, _++_}
+use mathlib.Core.Bool.{true, false}
+use mathlib.Core.List.{List, [], _++_}
 use lib.ListN.{length, take, drop, getD, set, length-drop}
 use lib.Seq.{paste, paste-suc, length-paste, length-take-le, getD-append-add, getD-drop}
-use Rattle.fields.specs.Keeping.{keptCount, atFront, Kept}
+use Rattle.fields.specs.declared.Ending.{Ending}
+use Rattle.fields.specs.Endings.{endingOf}
+use Rattle.fields.specs.Keeping.{keptCount, partIn, atFront, Kept, goesOn, CarriedOver}
 
 pub record Moved (l : List ℕ) (at end : ℕ) (buf : List ℕ) (from i : ℕ) : Type 0 where
   pub from-is : from ≡ at + i
@@ -62,3 +65,23 @@ module _ {l : List ℕ} {at end : ℕ} {buf : List ℕ} {from i : ℕ} (m : Move
 
   pub to-the-end : from < end → length buf ≤ from → Kept l at end i buf
   to-the-end e h = moved-all (omega (arith, m .from-is, m .few, m .inside, e, h, still-long))
+
+-- ---- the bytes from one place to another
+module _ (l : List ℕ) (at end last : ℕ) (e : last ≡ min end (length l)) where
+  pub some-part : at ≤ last → take (last - at) (drop at l) ≡ partIn l at end
+  some-part h =
+      let count : last - at ≡ keptCount l at end = omega (arith, e, h) in
+      ap (λ (k : ℕ). take k (drop at l)) count
+
+  pub no-part : last < at → [] ≡ partIn l at end
+  no-part h =
+      let count : 0 ≡ keptCount l at end = omega (arith, e, h) in
+      ap (λ (k : ℕ). take k (drop at l)) count
+
+-- ---- what is left of a piece
+module _ (l : List ℕ) (at end : ℕ) (e : Ending) (is : e ≡ endingOf (partIn l at end)) where
+  pub carried : goesOn e ≡ true → (n : ℕ) (l′ : List ℕ) → Kept l at end n l′ → CarriedOver l at end (record { ending = e; more = true; kept = n }) l′
+  carried g n l′ k = record { answer = rw (← is, g, ← k .count) refl; bytes = rw (← is, g) (k .bytes) }
+
+  pub ended : goesOn e ≡ false → CarriedOver l at end (record { ending = e; more = false; kept = 0 }) l
+  ended g = record { answer = rw (← is, g) refl; bytes = rw (← is, g) refl }

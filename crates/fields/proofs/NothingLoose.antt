@@ -4,19 +4,14 @@ use denote.Ref.{now}
 use Rattle.ground.proofs.Settles.{Settles, same}
 use Rattle.fields.proofs.first.Kinds as first-k
 use Rattle.fields.proofs.first.Reads as first-c
-use Rattle.fields.proofs.ending_of.Kinds as ending-of-k
-use Rattle.fields.proofs.ending_of.Reads as ending-of-c
-use Rattle.fields.proofs.keep.Kinds as keep-k
-use Rattle.fields.proofs.keep.Reads as keep-c
+use Rattle.fields.proofs.carry_over.Kinds as carry-over-k
+use Rattle.fields.proofs.carry_over.Reads as carry-over-c
 
 pub first : Settles 1 first-k.ps first-k.r first-c.Post (λ κs x s. x)
 first κs a x y s t = same
 
-pub ending-of : Settles 1 ending-of-k.ps ending-of-k.r ending-of-c.Post (λ κs x s. x)
-ending-of κs a x y s t = same
+pub carry-over : Settles 1 carry-over-k.ps carry-over-k.r carry-over-c.Post (λ κs x s. x)
+carry-over κs a x y s t p q = same (p .answer) (q .answer)
 
-pub keep : Settles 1 keep-k.ps keep-k.r keep-c.Post (λ κs x s. x)
-keep κs a x y s t p q = same (p .count) (q .count)
-
-pub keep-bytes : Settles 1 keep-k.ps keep-k.r keep-c.Post (λ κs x s. now (s .0))
-keep-bytes κs a x y s t p q = same (p .bytes) (q .bytes)
+pub carry-over-bytes : Settles 1 carry-over-k.ps carry-over-k.r carry-over-c.Post (λ κs x s. now (s .0))
+carry-over-bytes κs a x y s t p q = same (p .bytes) (q .bytes)

@@ -2,10 +2,10 @@
 // is kept of a piece for the next one. It promises every answer for all bytes, by the definitions of `night`,
 // `rack` and `setup`, and rests on those.
 ghost use mathlib.Core.Path.{_≡_};
-ghost use lib.ListN.{length};
+ghost use Prim.Native.Nat.{min};
 ghost use Rattle.fields.specs.Answers.{rackAfter, unread, eventField, startedField, setUpField, fieldOf};
 ghost use Rattle.fields.specs.Endings.{endingBy, endingOf};
-ghost use Rattle.fields.specs.Keeping.{Kept};
+ghost use Rattle.fields.specs.Keeping.{partIn, Kept, goesOn, CarriedOver};
 use ground::Verdict;
 use night::Found;
 use outgoing::Packet;
@@ -39,6 +39,14 @@ pub enum Ending {
     WrongLength,
     NotLaid,
     Readable,
+}
+
+// What is left of a piece.
+pub struct Left {
+    pub ending: Ending,
+    // Whether the night may go on with the next piece, and how many bytes are then kept in front of it.
+    pub more: bool,
+    pub kept: usize,
 }
 
 const NO_ACTIONS: Actions = Actions {
@@ -164,7 +172,7 @@ fn ending_by(found: Found, laid: bool) -> Ending
 }
 
 // Why the reading stopped before some bytes.
-pub fn ending_of(s: &[u8]) -> Ending
+fn ending_of(s: &[u8]) -> Ending
     ensures { λ r. ⌜ r ≡ endingOf (now (s .entry)) ⌝ }
 {
     if s.len() == 0 {
@@ -175,7 +183,7 @@ pub fn ending_of(s: &[u8]) -> Ending
 }
 
 // Moves the bytes from one place to another to the front, and hands back how many they are.
-pub fn keep(buf: &mut [u8], at: usize, end: usize) -> usize
+fn keep(buf: &mut [u8], at: usize, end: usize) -> usize
     ensures { λ r. ⌜ Kept (now (buf .entry)) at end r (now (buf .exit)) ⌝ }
 {
     let mut from = at;
@@ -189,4 +197,56 @@ pub fn keep(buf: &mut [u8], at: usize, end: usize) -> usize
         from += 1;
     }
     i
+}
+
+fn least(a: usize, b: usize) -> usize
+    ensures { λ r. ⌜ r ≡ min a b ⌝ }
+{
+    if a < b { a } else { b }
+}
+
+// The bytes from one place to another, as far as there are any.
+fn part(s: &[u8], at: usize, end: usize) -> &[u8]
+    ensures { λ r. ⌜ now r ≡ partIn (now (s .entry)) at end ⌝ }
+{
+    let last = least(end, s.len());
+    if at <= last {
+        return &s[at..last];
+    }
+    &s[..0]
+}
+
+// Whether the next piece may make up for what stands there.
+fn goes_on(e: Ending) -> bool
+    ensures { λ r. ⌜ r ≡ goesOn e ⌝ }
+{
+    match e {
+        Ending::Whole => true,
+        Ending::Cut => true,
+        Ending::UnknownTag => false,
+        Ending::WrongLength => false,
+        Ending::NotLaid => false,
+        Ending::Readable => true,
+    }
+}
+
+// What is left of a piece that ends at one place and is answered up to another: why the reading stopped there, and,
+// unless the night is damaged, the bytes moved to the front of the buffer.
+pub fn carry_over(buf: &mut [u8], at: usize, end: usize) -> Left
+    ensures { λ r. ⌜ CarriedOver (now (buf .entry)) at end r (now (buf .exit)) ⌝ }
+{
+    let e = ending_of(part(buf, at, end));
+    if goes_on(e) {
+        let n = keep(buf, at, end);
+        return Left {
+            ending: e,
+            more: true,
+            kept: n,
+        };
+    }
+    Left {
+        ending: e,
+        more: false,
+        kept: 0,
+    }
 }

@@ -1,5 +1,5 @@
--- From piece to piece: where a night stops no field stands that can be read, so that the ending has a reason; and what is kept of a piece (`fields::keep`) is what
--- was left over of it. Assumes nothing.
+-- From piece to piece: where a night stops no field stands that can be read, so that the ending has a reason; and what is kept of a piece
+-- (`fields::carry_over`) is what was left over of it. Assumes nothing.
 use Prim.Native.Nat.{ℕ, zero, suc, _+_, _-_, _≤_}
 use native.Mathlib.Omega.{arith}
 use mathlib.Core.Path.{_≡_, refl, sym, ap, _∙_}
@@ -16,7 +16,8 @@ use Rattle.night.specs.Events.{nextOf}
 use Rattle.night.specs.SetUps.{setUpIn}
 use Rattle.fields.specs.declared.Ending.{Ending}
 use Rattle.fields.specs.Endings.{endingBy, endingOf}
-use Rattle.fields.specs.Keeping.{Kept}
+use Rattle.fields.specs.declared.Left.{Left}
+use Rattle.fields.specs.Keeping.{keptCount, partIn, atFront, goesOn, CarriedOver}
 use Rattle.tally.specs.declared.Tally.{Tally}
 use Rattle.playing.specs.declared.Played.{Played}
 use Rattle.playing.specs.Nights.{begun, fieldDone, isReadable}
@@ -88,23 +89,40 @@ read-within (suc n) l =
     bounded (isReadable (nextOf l) l) (sizeOf l + readOf n (drop (sizeOf l) l)) (length l)
     (λ e. omega (arith, read-within n (drop (sizeOf l) l), length-drop (sizeOf l) l, read-fits l e))
 
-module _ (l l′ : List ℕ) (place end n : ℕ) (kept : Kept l place end n l′) (h : end ≤ length l) where
-  pub kept-bytes : place ≤ end → take n l′ ≡ drop place (take end l)
-  kept-bytes k =
+module _ (l : List ℕ) (place end : ℕ) (h : end ≤ length l) where
+  part-is : place ≤ end → partIn l place end ≡ drop place (take end l)
+  part-is k =
       let s = drop place l in
-      let count : n ≡ end - place = omega (arith, kept .count, h) in
-      let fits : end - place ≤ length s = omega (arith, h, length-drop place l) in
+      let count : keptCount l place end ≡ end - place = omega (arith, h) in
       let all : place + (end - place) ≡ end = omega (arith, k) in
       let part : take end l ≡ take place l ++ take (end - place) s = ap (λ (j : ℕ). take j l) (sym all) ∙ take-add place (end - place) l in
-      rw (kept .bytes, ← kept .count, count)
-      (take-append-le (end - place) (take (end - place) s) (drop (end - place) l) (omega (arith, length-take-le (end - place) s fits))
-      ∙ take-take (end - place) (end - place) s (omega arith)
-      ∙ sym (ap (drop place) part ∙ drop-at (take place l) (take (end - place) s) place (length-take-le place l (omega (arith, h, k)))))
+      ap (λ (j : ℕ). take j s) count ∙ sym (ap (drop place) part ∙ drop-at (take place l) (take (end - place) s) place (length-take-le place l (omega (arith, h, k))))
 
-  -- THE CLAIM: of a piece that ends there and was played, what is left over
-  pub kept-is-left : (r : Rack) (t : Tally) → place ≡ played (begun r t) (take end l) .at → take n l′ ≡ leftOf (begun r t) (take end l)
-  kept-is-left r t e =
-      let piece = take end l in
-      kept-bytes (omega (arith, e, place-is (length piece) (begun r t) piece, read-within (length piece) piece, length-take-le end l h))
-      ∙ ap (λ (k : ℕ). drop k piece) e
-      ∙ sym (left-at-its-place (begun r t) piece)
+  -- of a piece that ends there and was played up to the place, the bytes between are those that were left over
+  module _ (r : Rack) (t : Tally) (e : place ≡ played (begun r t) (take end l) .at) where
+    left-over : partIn l place end ≡ leftOf (begun r t) (take end l)
+    left-over =
+        let piece = take end l in
+        part-is (omega (arith, e, place-is (length piece) (begun r t) piece, read-within (length piece) piece, length-take-le end l h))
+        ∙ ap (λ (k : ℕ). drop k piece) e
+        ∙ sym (left-at-its-place (begun r t) piece)
+
+    module _ (left : Left) (l′ : List ℕ) (over : CarriedOver l place end left l′) where
+      -- THE CLAIM: the ending is that of what was left over
+      pub ending-of-what-is-left : left .ending ≡ endingOf (leftOf (begun r t) (take end l))
+      ending-of-what-is-left = ap (λ (x : Left). x .ending) (over .answer) ∙ ap endingOf left-over
+
+      -- THE CLAIM: where the night may go on, what is kept in front is what was left over
+      pub kept-is-left : left .more ≡ true → take (left .kept) l′ ≡ leftOf (begun r t) (take end l)
+      kept-is-left m =
+          let n = keptCount l place end in
+          let s = drop place l in
+          let goes : goesOn (endingOf (partIn l place end)) ≡ true = sym (ap (λ (x : Left). x .more) (over .answer)) ∙ m in
+          let count : left .kept ≡ n = ap (λ (x : Left). x .kept) (over .answer) ∙ rw goes refl in
+          let front : l′ ≡ atFront l place n = over .bytes ∙ rw goes refl in
+          let fits : n ≤ length s = omega (arith, length-drop place l) in
+          ap (λ (k : ℕ). take k l′) count
+          ∙ ap (take n) front
+          ∙ take-append-le n (take n s) (drop n l) (omega (arith, length-take-le n s fits))
+          ∙ take-take n n s (omega arith)
+          ∙ left-over

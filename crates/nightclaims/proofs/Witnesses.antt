@@ -37,6 +37,9 @@ use Rattle.night.specs.Events.{eventOf, kindOf, nextOf, behindOf}
 use Rattle.night.specs.SetUps.{headIs, isSetting, settingOf, isPort, isSupply, placed, groupIn, setUpIn}
 use Rattle.night.specs.Layout.{PortGroup, fourBytes, objectBytes, fieldBytes, portValue, rackValue, rackBytes, setUpFor, Fit}
 use Rattle.night.proofs.Example.{it-fits}
+use Rattle.fields.specs.declared.Ending.{Ending}
+use Rattle.fields.specs.Endings.{endingOf}
+use Rattle.fields.specs.Keeping.{goesOn}
 use Rattle.tally.specs.declared.Tally.{Tally}
 use Rattle.playing.specs.declared.Played.{Played}
 use Rattle.playing.specs.Nights.{begun, answered, eventDone, setUpDone, nightIn}
@@ -96,6 +99,11 @@ module _ (t : Tally) where
   pub cut-within-an-event : (played first (take 36 night) .at ≡ 34) × (leftOf first (take 36 night) ≡ 0x20 ∷ 0x01 ∷ []) × (readOf 36 (take 36 night) ≡ 34)
   unfolding nightIn readOf setUpDone nextOf kindOf setUpIn groupIn isSupply isPort isSetting settingOf headIs placed offerIn numberAt valueOf isWhole sizeOf lengthOf tagOf wordOf
   cut-within-an-event = (refl, refl, refl)
+
+  -- WhereItStops: of such a piece the ending is a cut, and the night may go on with what is kept; behind the last field nothing is left
+  pub cut-and-on : (endingOf (leftOf first (take 36 night)) ≡ Ending.Cut) × (goesOn (endingOf (leftOf first (take 36 night))) ≡ true) × (endingOf (drop 54 night) ≡ Ending.Whole)
+  unfolding endingOf nightIn setUpDone nextOf kindOf setUpIn groupIn isSupply isPort isSetting settingOf headIs placed offerIn numberAt valueOf isWhole sizeOf lengthOf tagOf wordOf
+  cut-and-on = (refl, refl, refl)
 
   -- in three pieces, with both cuts: the port holds all of the supply
   abbrev pieces : List (List ℕ)

@@ -48,7 +48,7 @@ fn once(buf: &mut [u8; ROOM], t: Turn) -> Turn {
         return answered(buf, t, came.end);
     }
     let mut last = t;
-    let i = input::over(buf, before, came.failed);
+    let i = input::over(before, came.failed);
     last.input = i;
     last
 }

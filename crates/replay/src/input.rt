@@ -16,7 +16,7 @@ pub struct Input {
     // How many bytes are kept, and the place of the first of them in the file.
     pub kept: usize,
     pub place: u64,
-    // Whether to read on; where not, how the night ended, and whether reading on failed.
+    // Whether to read on; how the night ends if no more comes, and whether reading on failed.
     pub more: bool,
     pub ending: Ending,
     pub failed: bool,
@@ -74,56 +74,29 @@ pub fn part(buf: &[u8; ROOM], from: usize, to: usize) -> &[u8] {
     &all[..0]
 }
 
-// Whether the night may go on with the next piece.
-fn goes_on(e: Ending) -> bool {
-    match e {
-        Ending::Whole => true,
-        Ending::Cut => true,
-        Ending::Readable => true,
-        Ending::UnknownTag => false,
-        Ending::WrongLength => false,
-        Ending::NotLaid => false,
-    }
-}
-
 // How the input stands once the bytes before a place are answered, of those up to an end: what is left is kept
 // for the next piece, unless the night is damaged there.
 pub fn after(buf: &mut [u8; ROOM], before: Input, at: usize, end: usize) -> Input {
-    let place = std::num::wrapping_add_u64(before.place, at as u64);
-    let e = fields::ending_of(part(buf, at, end));
-    if goes_on(e) {
-        return Input {
-            kept: fields::keep(buf, at, end),
-            place: place,
-            more: true,
-            ending: Ending::Whole,
-            failed: false,
-        };
-    }
+    let left = fields::carry_over(buf, at, end);
+    let e = left.ending;
     Input {
-        kept: 0,
-        place: place,
-        more: false,
+        kept: left.kept,
+        place: std::num::wrapping_add_u64(before.place, at as u64),
+        more: left.more,
         ending: e,
         failed: false,
     }
 }
 
-// The input has ended, and the night is cut where a field was begun; or it could not be read on behind the
-// bytes that are kept.
-pub fn over(buf: &[u8; ROOM], before: Input, failed: bool) -> Input {
-    let e = fields::ending_of(part(buf, 0, before.kept));
-    let mut place = before.place;
+// The input has ended, as the last piece left it; or it could not be read on behind the bytes that are kept.
+pub fn over(before: Input, failed: bool) -> Input {
+    let mut last = before;
+    last.more = false;
+    last.failed = failed;
     if failed {
-        place = std::num::wrapping_add_u64(place, before.kept as u64);
+        last.place = std::num::wrapping_add_u64(before.place, before.kept as u64);
     }
-    Input {
-        kept: 0,
-        place: place,
-        more: false,
-        ending: e,
-        failed: failed,
-    }
+    last
 }
 
 // What failed is said on standard error too.

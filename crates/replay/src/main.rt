@@ -54,7 +54,7 @@ fn once(buf: &mut [u8; ROOM], out: &mut [u8; TEXT], t: Turn) -> Turn {
         return answered(buf, out, t, came.end);
     }
     let mut last = t;
-    let i = input::over(buf, before, came.failed);
+    let i = input::over(before, came.failed);
     last.input = i;
     last
 }
