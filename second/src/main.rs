@@ -54,7 +54,7 @@ mod step_walk;
 mod step_words;
 mod writing_cases;
 
-use std::io::{self, BufWriter, Write};
+use std::io::{self, BufWriter, ErrorKind, Write};
 use std::process::ExitCode;
 
 const USAGE: &str = "usage: second COMMAND
@@ -91,12 +91,20 @@ fn main() -> ExitCode {
     let words = arguments.iter().map(|word| word.to_str());
     let words: Vec<&str> = words.map(|word| word.unwrap_or_default()).collect();
     let output = BufWriter::new(io::stdout().lock());
-    match run(&words, output) {
+    match closed_pipe_is_quiet(run(&words, output)) {
         Ok(status) => status,
         Err(error) => {
             eprintln!("second: {error}");
             ExitCode::FAILURE
         }
+    }
+}
+
+/// Who reads the output may have enough of it, as `head` has.
+fn closed_pipe_is_quiet(outcome: io::Result<ExitCode>) -> io::Result<ExitCode> {
+    match outcome {
+        Err(error) if error.kind() == ErrorKind::BrokenPipe => Ok(ExitCode::SUCCESS),
+        other => other,
     }
 }
 
@@ -159,3 +167,7 @@ fn race_with(rounds: &str, night: &str, program: &str, output: impl Write) -> io
     race::race(rounds, night, program, &[&this, "quiet"], output)?;
     Ok(ExitCode::SUCCESS)
 }
+
+#[cfg(test)]
+#[path = "main_tests.rs"]
+mod tests;

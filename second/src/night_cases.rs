@@ -14,8 +14,8 @@ use crate::step_walk::{Walk, FIVE_VOLT, NINE_VOLT};
 use crate::{night_pieces, rack_cases, rack_set_ups, random_night};
 use std::io::{self, Write};
 
-const SEEDS: [u64; 4] = [201, 202, 203, 204];
-const EVENTS_OF_A_NIGHT: u64 = 6_500;
+pub const SEEDS: [u64; 4] = [201, 202, 203, 204];
+pub const EVENTS_OF_A_NIGHT: u64 = 6_500;
 
 pub fn print_all(mut output: impl Write) -> io::Result<()> {
     let mut file = Vec::new();

@@ -2,8 +2,9 @@
 //! where no line goes.
 
 use super::*;
+use crate::packet::read;
 use crate::packet_lines::answer_all;
-use std::collections::BTreeMap;
+use std::collections::{BTreeMap, BTreeSet};
 use std::sync::OnceLock;
 
 /// Made once, for they are many.
@@ -14,6 +15,10 @@ fn all_lines() -> &'static [u8] {
         print_all(&mut lines).unwrap();
         lines
     })
+}
+
+fn each_line() -> impl Iterator<Item = &'static [u8]> {
+    all_lines().split(|&character| character == b'\n')
 }
 
 #[test]
@@ -53,15 +58,58 @@ fn every_answer_turns_up() {
 
 #[test]
 fn every_header_has_its_line() {
-    let lines = all_lines();
     let mut seen = vec![false; 0x1_0000];
-    for line in lines.split(|&character| character == b'\n') {
+    for line in each_line() {
         if let Some([low, high, objects @ ..]) = hex::bytes_of(line).as_deref() {
             let header = u16::from_le_bytes([*low, *high]);
             seen[usize::from(header)] |= objects.len() == 4 * objects_of(header);
         }
     }
     assert_eq!(seen.iter().position(|seen| !seen), None);
+}
+
+/// Often, and with every object count, plain and extended, and with Chunked set and
+/// clear, as far as the packet has bytes for them.
+#[test]
+fn every_length_has_its_lines() {
+    let mut counts = BTreeMap::new();
+    for packet in each_line().filter_map(hex::bytes_of) {
+        let top = |place, shift: u32| packet.get::<usize>(place).map_or(0, |byte| byte >> shift);
+        let kind = (packet.len(), top(1, 4), top(3, 7));
+        *counts.entry(kind).or_insert(0) += 1;
+    }
+    for (length, kinds) in (0..=40).zip([1, 1, 16, 16].into_iter().chain([32; 37])) {
+        let found = counts.range((length, 0, 0)..=(length, 15, 1));
+        assert_eq!(found.clone().count(), kinds, "{length}");
+        let lines: usize = found.map(|(_, count)| count).sum();
+        assert!(lines >= 24 + 96, "{length}: {lines}");
+    }
+}
+
+/// Every place in and past buffers of every size, with all fifteen packets (seven
+/// objects at most, plain and extended) for which nothing but the room decides.
+#[test]
+fn every_room_has_its_lines() {
+    let mut seen = BTreeSet::new();
+    for line in each_line() {
+        let parts = line.split(|&character| character == b'@');
+        let parts: Option<Vec<_>> = parts.map(hex::bytes_of).collect();
+        let Some([packet, room]) = parts.as_deref() else {
+            continue;
+        };
+        match (read(packet), &room[..]) {
+            ((Ok(fields), objects), &[size, place]) if fields.revision != 0b11 => {
+                seen.insert((size, place, objects.len(), fields.extended))
+            }
+            _ => continue,
+        };
+    }
+    let rooms = (0..=40).flat_map(|size| (0..=42).map(move |place| (size, place, 15)));
+    let large = [0, 34, 62, 65, 255].map(|place| (64, place, 8));
+    for (size, place, packets) in rooms.chain(large) {
+        let found = seen.range((size, place, 0, false)..=(size, place, 28, true));
+        assert_eq!(found.count(), packets, "{size} {place}");
+    }
 }
 
 #[test]

@@ -34,7 +34,8 @@ pub fn race(
         first * 1000.0,
         second * 1000.0,
         first / second
-    )
+    )?;
+    output.flush()
 }
 
 fn run(command: &[&str], night: &str) -> io::Result<Duration> {

@@ -1,6 +1,7 @@
 //! That the nights by chance are as many as asked for, and really come everywhere.
 
 use super::*;
+use crate::night_cases::{EVENTS_OF_A_NIGHT, SEEDS};
 use crate::night_fields::{bytes_of, Record};
 use crate::night_reader::NightReader;
 use crate::port::Event;
@@ -104,6 +105,16 @@ fn every_state_every_refusal_and_both_power_answers_often() {
         assert!(comings(State::Declining) > 100 && comings(State::Disabled) > 0);
         assert!(seen.longest_packet > 500);
         assert!([0, 9, 255].iter().all(|port| seen.ports.contains(port)));
+    }
+}
+
+/// The same at the sizes of `night-cases`, in racks of each number of ports.
+#[test]
+fn every_state_in_the_nights_of_the_cases_too() {
+    for ports in 1..=MOST_PORTS {
+        let nights = SEEDS.map(|seed| night(seed, EVENTS_OF_A_NIGHT, ports));
+        let states = look_at(&nights.concat()).states;
+        assert_eq!(states.len(), 15, "{ports}: {states:?}");
     }
 }
 

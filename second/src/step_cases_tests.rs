@@ -7,6 +7,7 @@ use crate::meaning::{kind, meaning};
 use crate::packet::read;
 use crate::port::Timer;
 use crate::step_lines::{answer_all, Bench, Reply};
+use std::collections::BTreeMap;
 use std::sync::OnceLock;
 
 /// Made once, for they are many.
@@ -143,6 +144,29 @@ fn every_answer_turns_up() {
         assert_eq!(output.matches(text).take(10).count(), 10, "{text}");
     }
     assert!(!output.contains("count 51,") && !output.contains("retries 3,"));
+}
+
+/// The sequences by chance by themselves: they come to every state often, and where
+/// nobody answers to the fiftieth offer and to Disabled.
+#[test]
+fn chance_alone_comes_everywhere() {
+    let mut walk = Walk::new();
+    step_random::add_all(&mut walk);
+    let mut bench = Bench::new();
+    let (mut comings, mut fiftieth_offers) = (BTreeMap::new(), 0);
+    for line in split(&walk.lines) {
+        let (state, count) = (bench.port.state, bench.port.count);
+        bench.take(line);
+        if bench.port.state != state {
+            *comings.entry(bench.port.state).or_insert(0) += 1;
+        }
+        fiftieth_offers += usize::from((count, bench.port.count) == (49, 50));
+    }
+    assert_eq!(comings.len(), 16, "{comings:?}");
+    let disabled = comings.remove(&State::Disabled).unwrap_or(0);
+    assert!(comings.values().all(|&times| times > 100), "{comings:?}");
+    // once in each round
+    assert!(fiftieth_offers >= 12 && disabled >= 12, "{disabled}");
 }
 
 /// After every line: what the paper says of a port that stands somewhere.
