@@ -28,7 +28,7 @@ use source::State;
 use source::Timer;
 use tally::Tally;
 
-mod fields;
+mod turns;
 
 pub struct Played {
     pub rack: Rack,
@@ -158,16 +158,16 @@ pub fn night(r: Rack, t: Tally, s: &[u8]) -> Played
         left -= 1;
         let f = &s[at..];
         let found = night::next(f);
-        if fields::is_event(found) {
+        if turns::is_event(found) {
             at += night::size(f);
-            let number = fields::number_in(found);
+            let number = turns::number_in(found);
             if is_in(count, number) {
                 let i = (number - 1) as usize;
                 let t = slots[i];
                 let phase = t.port.phase;
                 let state = phase.state;
                 let was = t.load();
-                let a = fields::stepped(t, found, f, total - was as u64, supply);
+                let a = turns::stepped(t, found, f, total - was as u64, supply);
                 let q = a.port;
                 let u = Slot {
                     port: q,
@@ -182,7 +182,7 @@ pub fn night(r: Rack, t: Tally, s: &[u8]) -> Played
             tally = nobody(tally, number);
             continue;
         }
-        if fields::is_set_up(found) {
+        if turns::is_set_up(found) {
             let laid = night::set_up(f);
             if laid.whole {
                 at += night::size(f);

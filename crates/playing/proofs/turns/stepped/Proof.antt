@@ -1,8 +1,8 @@
 use borrow.Author.Needs.{needs}
 use mathlib.Core.Path.{_∙_}
 use Rattle.playing.proofs.Meets.{as-stepped}
-use Rattle.playing.proofs.fields.stepped.Statement.{statement}
-use Rattle.playing.proofs.fields.stepped.Tie as tie
+use Rattle.playing.proofs.turns.stepped.Statement.{statement}
+use Rattle.playing.proofs.turns.stepped.Tie as tie
 
 pub stepped-spec : {M : Type 1} → statement M
 stepped-spec =

@@ -1,7 +1,7 @@
 use borrow.Author.Needs.{needs}
 use mathlib.Core.Path.{_∙_}
-use Rattle.playing.proofs.fields.offer_in.Statement.{statement}
-use Rattle.playing.proofs.fields.offer_in.Tie as tie
+use Rattle.playing.proofs.turns.offer_in.Statement.{statement}
+use Rattle.playing.proofs.turns.offer_in.Tie as tie
 
 pub offer-in-spec : {M : Type 1} → statement M
 offer-in-spec =

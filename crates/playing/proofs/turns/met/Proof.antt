@@ -1,7 +1,7 @@
 use borrow.Author.Needs.{needs}
 use mathlib.Core.Path.{_∙_}
-use Rattle.playing.proofs.fields.met.Statement.{statement}
-use Rattle.playing.proofs.fields.met.Tie as tie
+use Rattle.playing.proofs.turns.met.Statement.{statement}
+use Rattle.playing.proofs.turns.met.Tie as tie
 
 pub met-spec : {M : Type 1} → statement M
 met-spec =
