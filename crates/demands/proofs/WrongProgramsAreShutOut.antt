@@ -64,7 +64,7 @@ use Rattle.demands.specs.Demand1.{Demand1}
 use Rattle.demands.specs.Demand2.{Acceptable, seen, Demand2}
 use Rattle.demands.specs.Demand3.{Demand3}
 use Rattle.demands.specs.WrongPrograms as Wrong
-use Rattle.demands.proofs.WorkedRequests.{first}
+use Rattle.demands.proofs.WorkedRequests.{first, wanting, drawing}
 
 -- ---- the night desk, and what came to it
 abbrev u : SetUp
@@ -144,6 +144,15 @@ record Cases : Type 0 where
   refuses : isAccept (onWire (answer Wrong.rejectsEverything one (packet Desk.for30000) .actions .transmit)) ≡ false
   comparing : Acceptable Wrong.comparesWithTheWrongLimit u one 0 Desk.for54000 1 first
   compares : isAccept (onWire (answer Wrong.comparesWithTheWrongLimit one (packet Desk.for54000) .actions .transmit)) ≡ false
+  mismatches : (readOf (wanting 0x24) ≡ Reading.Message 1 first) × (readOf (wanting 0x20) ≡ Reading.Message 1 first) × (readOf (drawing 0x24) ≡ Reading.Message 1 first)
+  mismatched : Acceptable Wrong.hearsNoMismatch u one 0 (wanting 0x24) 1 first
+  hears-none : isAccept (onWire (answer Wrong.hearsNoMismatch one (packet (wanting 0x24)) .actions .transmit)) ≡ false
+  hears-all :
+      (isAccept (onWire (answer Wrong.hearsAMismatchInEveryRequest one (packet (wanting 0x20)) .actions .transmit)) ≡ true)
+      × (fits 1 (firstObject (partOf (wanting 0x20))) (at1 Wrong.hearsAMismatchInEveryRequest one .last) ≡ false)
+  compares-none :
+      (isAccept (onWire (answer Wrong.comparesNoCurrentOfAMismatch one (packet (drawing 0x24)) .actions .transmit)) ≡ true)
+      × (fits 1 (firstObject (partOf (drawing 0x24))) (at1 Wrong.comparesNoCurrentOfAMismatch one .last) ≡ false)
   accepts : leb (total (λ i. heldBy (suc i) (history Wrong.acceptsEverything u three)) 4) 240000 ≡ false
   counts : leb (total (λ i. heldBy (suc i) (history Wrong.countsOnlyItsOwnPort u three)) 4) 240000 ≡ false
   forgets : leb (total (λ i. max (setting u i .share) (heldBy (suc i) (history Wrong.forgetsTheSharesOfIdlePorts u two))) 4) 240000 ≡ false
@@ -188,6 +197,11 @@ cases =
       refuses = refl;
       comparing = record { new = refl; awaited-or-in-ready = refl; fits-the-last-offer = refl; within-the-limit = leb-true 54000 120000 refl; within-the-supply = leb-true 144000 240000 refl };
       compares = refl;
+      mismatches = (refl, refl, refl);
+      mismatched = record { new = refl; awaited-or-in-ready = refl; fits-the-last-offer = refl; within-the-limit = leb-true 36000 120000 refl; within-the-supply = leb-true 126000 240000 refl };
+      hears-none = refl;
+      hears-all = (refl, refl);
+      compares-none = (refl, refl);
       accepts = refl;
       counts = refl;
       forgets = refl;
@@ -238,6 +252,21 @@ forgets-the-shares-of-idle-ports d = too-much _ 240000 (cases .forgets) (d .supp
 pub compares-with-the-wrong-limit : Demand2 Wrong.comparesWithTheWrongLimit → ⊥
 compares-with-the-wrong-limit d =
     true-not-false (sym (d .accepts u (cases .set-up) one 0 at-first .accepted-when Desk.for54000 1 first (cases .read .1) (cases .read .2) (cases .comparing)) ∙ cases .compares)
+
+-- capability mismatch: not heard, as before request 01; heard in every Request; and its operating current not compared either
+pub hears-no-mismatch : Demand2 Wrong.hearsNoMismatch → ⊥
+hears-no-mismatch d =
+    true-not-false (sym (d .accepts u (cases .set-up) one 0 at-first .accepted-when (wanting 0x24) 1 first (cases .mismatches .0) (cases .read .2) (cases .mismatched)) ∙ cases .hears-none)
+
+pub hears-a-mismatch-in-every-request : Demand2 Wrong.hearsAMismatchInEveryRequest → ⊥
+hears-a-mismatch-in-every-request d =
+    let c = cases .hears-all in
+    true-not-false (sym (d .accepts u (cases .set-up) one 0 at-first .accepted-only-when (wanting 0x20) 1 first (cases .mismatches .1) (cases .read .2) (c .0) .fits-the-last-offer) ∙ c .1)
+
+pub compares-no-current-of-a-mismatch : Demand2 Wrong.comparesNoCurrentOfAMismatch → ⊥
+compares-no-current-of-a-mismatch d =
+    let c = cases .compares-none in
+    true-not-false (sym (d .accepts u (cases .set-up) one 0 at-first .accepted-only-when (drawing 0x24) 1 first (cases .mismatches .2) (cases .read .2) (c .0) .fits-the-last-offer) ∙ c .1)
 
 -- held power: let go at Accept, kept after detach, or not told at all
 pub lets-go-of-old-power-at-accept : Demand3 Wrong.letsGoOfOldPowerAtAccept → ⊥

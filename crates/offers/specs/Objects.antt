@@ -27,6 +27,9 @@ currentOf x = get MaximumCurrent x
 abbrev ObjectPosition : Bits
 ObjectPosition = bits 28 4
 
+abbrev CapabilityMismatch : Bits
+CapabilityMismatch = bits 26 1
+
 abbrev OperatingCurrent : Bits
 OperatingCurrent = bits 10 10
 
@@ -35,6 +38,9 @@ MaximumOperatingCurrent = bits 0 10
 
 abbrev pub positionOf : ℕ → ℕ
 positionOf r = get ObjectPosition r
+
+abbrev pub isMismatch : ℕ → Bool
+isMismatch r = eqb (get CapabilityMismatch r) 1
 
 abbrev pub operatingOf : ℕ → ℕ
 operatingOf r = get OperatingCurrent r

@@ -4,7 +4,7 @@
 ghost use mathlib.Core.Path.{_≡_};
 ghost use lib.ListN.{take};
 ghost use Prim.Native.Nat.{_≤_};
-ghost use Rattle.offers.specs.Objects.{voltageOf, currentOf, positionOf, operatingOf, maximumOf};
+ghost use Rattle.offers.specs.Objects.{voltageOf, currentOf, positionOf, isMismatch, operatingOf, maximumOf};
 ghost use Rattle.offers.specs.Offers.{has, objectAt, goodObject, goodFrom, goodOffer};
 ghost use Rattle.offers.specs.Requests.{fits, asked, fitOf, isHonoured};
 
@@ -47,6 +47,13 @@ fn position(request: u32) -> u8
     ensures { λ p. ⌜ p ≡ positionOf request ⌝ }
 {
     (request / 268435456 % 16) as u8
+}
+
+// Whether a Request names more than is offered, and says so.
+fn is_mismatch(request: u32) -> bool
+    ensures { λ m. ⌜ m ≡ isMismatch request ⌝ }
+{
+    request / 67108864 % 2 == 1
 }
 
 fn operating(request: u32) -> u32
@@ -138,7 +145,8 @@ fn fits_offer(count: u8, request: u32, o: Offer) -> bool
     let p = position(request);
     let there = has_object(o, p);
     let most = current(object_at(o, p));
-    (count == 1) & there & (operating(request) <= most) & (maximum(request) <= most)
+    let mismatch = is_mismatch(request);
+    (count == 1) & there & (operating(request) <= most) & (mismatch | (maximum(request) <= most))
 }
 
 // What a Request asks of an offer that it fits.

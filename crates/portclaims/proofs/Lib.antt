@@ -19,6 +19,7 @@ pub mod NeverSleeps
 pub mod FailedSends
 pub mod OffersGoOut
 pub mod UnfitIsRejected
+pub mod MismatchSaysNothingMore
 pub mod OfferCount
 pub mod NothingLoose
 pub mod Witnesses

@@ -14,4 +14,5 @@ fits-offer-spec =
     (λ c κs. search needs)
     (λ c κs. search needs)
     (λ c κs. search needs)
-    (λ c. rw (c .maximum .ensures, c .before .operating .ensures, c .before .before .current .ensures, c .before .before .before .object-at .ensures, c .before .before .before .before .has-object .ensures, c .before .before .before .before .before .position .ensures)))
+    (λ c κs. search needs)
+    (λ c. rw (c .maximum .ensures, c .before .operating .ensures, c .before .before .is-mismatch .ensures, c .before .before .before .current .ensures, c .before .before .before .before .object-at .ensures, c .before .before .before .before .before .has-object .ensures, c .before .before .before .before .before .before .position .ensures)))
