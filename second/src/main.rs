@@ -42,6 +42,7 @@ mod refusal;
 mod replay;
 mod replay_counts;
 mod replay_table;
+mod request_objects;
 mod states;
 mod step_cases;
 mod step_events;

@@ -1,8 +1,8 @@
 //! Nights to try the replay with (docs/NIGHT.md, docs/REPLAY.md), one behind
 //! another in one file: events before any set-up, the paper's examples 7 and 8,
-//! power and offers at their bounds, set-ups good and bad, all numbers of ports,
-//! fields in every place of the pieces in which a file is read, nights by chance,
-//! and an end that is damaged.
+//! Requests that ask or name too much, power and offers at their bounds, set-ups
+//! good and bad, all numbers of ports, fields in every place of the pieces in which
+//! a file is read, nights by chance, and an end that is damaged.
 
 use crate::night_lines::write_night;
 use crate::night_writer::{add_event, add_field, add_set_up};
@@ -22,6 +22,7 @@ pub fn print_all(mut output: impl Write) -> io::Result<()> {
     no_rack_yet(&mut file);
     add_walk(&mut file, rack_cases::example_7);
     add_walk(&mut file, rack_cases::example_8);
+    add_walk(&mut file, rack_cases::asking_for_more);
     add_walk(&mut file, rack_cases::whole_supply);
     add_walk(&mut file, rack_cases::own_limits);
     add_walk(&mut file, rack_cases::not_awaited);

@@ -6,7 +6,8 @@ use crate::offer::Object;
 use crate::port::Event;
 use crate::rack::{Place, SetUp};
 use crate::rack_situations::alike;
-use crate::step_walk::{message, request, FIVE_VOLT, GOOD_CRC, NINE_VOLT, REQUEST};
+use crate::request_objects::request;
+use crate::step_walk::{message, FIVE_VOLT, GOOD_CRC, NINE_VOLT, REQUEST};
 
 const PIECE: usize = 65_536;
 const MOST_VALUE: usize = 65_535;

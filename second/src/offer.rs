@@ -1,6 +1,7 @@
 //! Objects, the paper's "The packet"; a good offer, "Refusal numbers"; and when a
-//! Request fits, "The Source states". Voltages, currents and power stay in the
-//! units of the fields: 50 mV, 10 mA, half a milliwatt.
+//! Request fits, "The Source states" with request 01, "Asking for more than we
+//! have". Voltages, currents and power stay in the units of the fields: 50 mV,
+//! 10 mA, half a milliwatt.
 
 use std::ops::Deref;
 
@@ -114,14 +115,19 @@ pub struct Deal {
 }
 
 /// What a Request with these object bytes asks of this offer; None where it does
-/// not fit.
+/// not fit. "With bit 26 set only the operating current is compared": the maximum
+/// then says what the receiver would need (000, 6.4.2.3), and asks for nothing.
+/// Without it both are. Bit 27 is ignored, so that the low field is a maximum also
+/// where 000 has a minimum there.
 pub fn asked(request: &[u8], offer: &[Object]) -> Option<Deal> {
     let request = u32::from_le_bytes(request.try_into().ok()?);
     let position = (request >> 28) as u8;
+    let mismatch = request >> 26 & 1 == 1;
     let current = request >> 10 & 0x3FF;
     let most_current = request & 0x3FF;
     let object = at(offer, position)?;
-    (current <= object.current() && most_current <= object.current()).then_some(Deal {
+    let has = |current| current <= object.current();
+    (has(current) && (mismatch || has(most_current))).then_some(Deal {
         position,
         voltage: object.voltage(),
         current,

@@ -2,6 +2,7 @@
 //! a Request that fits.
 
 use super::*;
+use crate::request_objects::{request, with_flags, FLAGS, GIVE_BACK, MISMATCH};
 
 const FIVE_VOLT: Object = Object(0x0001_912C);
 const NINE_VOLT: Object = Object(0x0002_D12C);
@@ -79,10 +80,6 @@ fn only_fixed_objects_and_other_bits_ignored() {
     assert!(is_good(&[Object(FIVE_VOLT.0 | 0x3FF0_0000)], MOST));
 }
 
-fn request(position: u32, current: u32, most_current: u32) -> [u8; 4] {
-    (position << 28 | current << 10 | most_current).to_le_bytes()
-}
-
 #[test]
 fn a_request_that_fits_takes_its_voltage_from_the_offer() {
     let offer = [FIVE_VOLT, NINE_VOLT];
@@ -98,8 +95,7 @@ fn a_request_that_fits_takes_its_voltage_from_the_offer() {
         (small.voltage, small.current, small.worth),
         (100, 10, 1_000)
     );
-    // capability mismatch and the other bits beside
-    let noisy = (0x1FF0_0000u32 | 10 << 10 | 300).to_le_bytes();
+    let noisy = with_flags(request(1, 10, 300), FLAGS);
     assert_eq!(asked(&noisy, &offer), Some(small));
 }
 
@@ -116,6 +112,83 @@ fn a_request_fits_by_position_and_both_currents() {
     assert_eq!(asked(&[], &offer), None);
 }
 
+/// 3 A asked and 5 A named of an object that has 3 A: with bit 26, and without.
+#[test]
+fn more_may_be_named_with_capability_mismatch_alone() {
+    let offer = [FIVE_VOLT, NINE_VOLT];
+    let deal = Deal {
+        position: 2,
+        voltage: 180,
+        current: 300,
+        worth: 54_000,
+    };
+    assert_eq!(asked(&[0xF4, 0xB1, 0x04, 0x24], &offer), Some(deal));
+    assert_eq!(asked(&[0xF4, 0xB1, 0x04, 0x20], &offer), None);
+    // GiveBack beside either
+    assert_eq!(asked(&[0xF4, 0xB1, 0x04, 0x2C], &offer), Some(deal));
+    assert_eq!(asked(&[0xF4, 0xB1, 0x04, 0x28], &offer), None);
+}
+
+/// All 256 mixtures of the bits between the position and the currents; the deal is
+/// by the operating current in each.
+#[test]
+fn of_all_flags_capability_mismatch_alone_counts() {
+    for flags in (0..=0xFF).map(|flags| flags << 20) {
+        let mismatch = flags & 0x0400_0000 != 0;
+        for (current, most_current, fits) in [
+            (300, 300, true),
+            (300, 0, true),
+            (300, 301, mismatch),
+            (299, 301, mismatch),
+            (0, 1023, mismatch),
+            (301, 300, false),
+            (301, 301, false),
+            (1023, 0, false),
+        ] {
+            let object = with_flags(request(1, current, most_current), flags);
+            let deal = Deal {
+                position: 1,
+                voltage: 100,
+                current,
+                worth: 100 * current,
+            };
+            let expected = fits.then_some(deal);
+            assert_eq!(asked(&object, &[FIVE_VOLT]), expected, "{object:02X?}");
+        }
+    }
+}
+
+/// Every small current, asked and named, of every small object.
+#[test]
+fn a_request_fits_by_one_current_or_both() {
+    for offered in 0..=4 {
+        let offer = [Object::new(100, offered)];
+        for (current, most_current) in (0..36).map(|pair| (pair / 6, pair % 6)) {
+            let object = request(1, current, most_current);
+            let fits = |flags| asked(&with_flags(object, flags), &offer).is_some();
+            let both = current <= offered && most_current <= offered;
+            assert_eq!((fits(0), fits(GIVE_BACK)), (both, both));
+            let one = current <= offered;
+            assert_eq!((fits(MISMATCH), fits(FLAGS)), (one, one));
+        }
+    }
+}
+
+#[test]
+fn capability_mismatch_excuses_no_position_and_no_second_object() {
+    let offer = [FIVE_VOLT, NINE_VOLT];
+    for position in 0..16 {
+        for most_current in [1, 300, 301, 1023] {
+            let object = with_flags(request(position, 1, most_current), MISMATCH);
+            let fits = asked(&object, &offer).is_some();
+            assert_eq!(fits, position == 1 || position == 2, "{position}");
+            assert_eq!(asked(&[object, object].concat(), &offer), None);
+            assert_eq!(asked(&object[..3], &offer), None);
+            assert_eq!(asked(&object, &[]), None);
+        }
+    }
+}
+
 #[test]
 fn a_contract_is_honoured_by_position_voltage_and_current() {
     let contract = asked(&request(2, 200, 300), &[FIVE_VOLT, NINE_VOLT]).unwrap();
@@ -126,4 +199,7 @@ fn a_contract_is_honoured_by_position_voltage_and_current() {
     assert!(!honours(&[FIVE_VOLT], &contract));
     let elsewhere = [FIVE_VOLT, Object::new(140, 300), NINE_VOLT];
     assert!(!honours(&elsewhere, &contract));
+    // by its operating current, whatever was named beside it
+    let named = with_flags(request(2, 200, 500), MISMATCH);
+    assert_eq!(asked(&named, &[FIVE_VOLT, NINE_VOLT]), Some(contract));
 }

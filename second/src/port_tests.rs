@@ -143,6 +143,29 @@ fn default_begins_the_count_again() {
     assert_eq!(walk(&format!("{way} supplyready")).port().count, 1);
 }
 
+/// 1 A is asked both times, with 1.5 A named and with 5 A of the 3 A that there are.
+#[test]
+fn what_is_named_with_capability_mismatch_leaves_no_trace() {
+    for more in [
+        "",
+        "yes",
+        "no acked",
+        "yes acked supplyready",
+        "yes acked supplyready acked",
+        "yes acked supplyready acked caps acked ask2 yes",
+        // 1 A is all that is still offered, and the contract stays
+        "yes acked supplyready acked new-weak acked ask-over acked",
+    ] {
+        let after = |ask: &str| walk(&format!("attach acked {ask} {more}"));
+        let (usual, mismatch) = (after("ask-small"), after("ask-more"));
+        assert_eq!(mismatch.port(), usual.port(), "{more}");
+    }
+    let kept = walk("contract-more new-weak acked ask-over acked");
+    assert_eq!(kept.port().state, State::Ready);
+    let refused = walk("attach acked ask-over");
+    assert_eq!(refused.port().state, State::Refusing);
+}
+
 /// The paper has no other place for a Request that waits for its answer.
 #[test]
 fn the_request_is_in_memory_from_judge_on() {

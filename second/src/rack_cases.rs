@@ -1,14 +1,15 @@
 //! Lines about racks to try the step program with (docs/STEPS.md): the paper's
-//! examples 8 and 7, set-ups at their bounds, numbers that are not in the rack,
-//! every event in every state, neighbours that give up power, nights by chance,
-//! and lines whose text is odd.
+//! examples 8 and 7, Requests that ask or name too much, set-ups at their bounds,
+//! numbers that are not in the rack, every event in every state, neighbours that
+//! give up power, nights by chance, and lines whose text is odd.
 
 use crate::offer::Object;
 use crate::port::State;
 use crate::rack::{Place, SetUp, LARGEST_SUPPLY, MOST_PORTS};
 use crate::rack_situations::{alike, go_in_rack, TWENTY_VOLT};
+use crate::request_objects::{mixtures, request};
 use crate::step_events::bad_offers;
-use crate::step_walk::{offer_line, request, Walk, FIVE_VOLT, NINE_VOLT, REQUEST};
+use crate::step_walk::{offer_line, Walk, FIVE_VOLT, NINE_VOLT, REQUEST};
 use crate::{rack_nights, rack_odd_lines, rack_set_ups, rack_situations, rack_stories};
 use std::io::{self, Write};
 
@@ -18,6 +19,7 @@ pub fn print_all(mut output: impl Write) -> io::Result<()> {
     rack_set_ups::add_all(&mut walk);
     example_8(&mut walk);
     example_7(&mut walk);
+    asking_for_more(&mut walk);
     whole_supply(&mut walk);
     own_limits(&mut walk);
     numbers(&mut walk);
@@ -67,6 +69,21 @@ pub fn example_7(walk: &mut Walk) {
         let packet = [0x82, 0x12, 0x2C, 0xB1, 0x04, 0x20];
         walk.packet(&packet);
         walk.packet(&packet);
+        go_in_rack(walk, "acked supplyready acked");
+    }
+}
+
+/// Port 3 of example 8 asks for its 36,000 or 36,180 in all mixtures.
+pub fn asking_for_more(walk: &mut Walk) {
+    let met = mixtures(2, 200, 300);
+    let passed = mixtures(2, 201, 300);
+    for object in met.iter().chain(&passed) {
+        walk.set_up(&alike(240_000, 4, &[FIVE_VOLT, NINE_VOLT, TWENTY_VOLT]));
+        ask(walk, 1, 3, 300);
+        ask(walk, 2, 2, 300);
+        walk.turn_to(3);
+        go_in_rack(walk, "attach acked");
+        walk.hear(REQUEST, object);
         go_in_rack(walk, "acked supplyready acked");
     }
 }

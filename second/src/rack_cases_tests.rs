@@ -2,10 +2,10 @@
 //! paper at every one of them.
 
 use super::*;
-use crate::hex;
 use crate::port::Event;
 use crate::rack::{Bay, Rack};
 use crate::step_lines::{answer_all, Bench, Reply};
+use crate::step_walk::packet_of;
 use std::collections::{BTreeMap, BTreeSet};
 use std::sync::OnceLock;
 
@@ -45,10 +45,9 @@ struct Judged {
 
 /// What the port asks for at this line, if it then awaits a power answer.
 fn asked(line: &[u8], bay: &Bay) -> Option<u32> {
-    let text = line.windows(6).position(|word| word == b"packet")?;
-    let bytes = hex::bytes_of(&line[text + 6..])?;
+    let packet = packet_of(line)?;
     let mut alone = bay.port.clone();
-    alone.step(&Event::Packet(&bytes), bay.limit).ok()?;
+    alone.step(&Event::Packet(&packet), bay.limit).ok()?;
     (alone.state == State::Judge).then_some(alone.accepted.worth)
 }
 

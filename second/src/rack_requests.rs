@@ -1,10 +1,12 @@
 //! What a port of a rack offers, and what a receiver asks for: all it can get, just
-//! what the neighbours leave, one step more than that, little, or what does not fit.
+//! what the neighbours leave, one step more than that, little, what does not fit, or
+//! more named than is offered, with capability mismatch and without.
 
 use crate::chance::Chance;
 use crate::offer::{asked, Object};
 use crate::port::Port;
-use crate::step_walk::{request, Walk};
+use crate::request_objects::{request, some_mixture};
+use crate::step_walk::Walk;
 
 /// Two to five objects; the last ones are worth all that the port may ever give.
 pub fn strong_offer(chance: &mut Chance, limit: u32) -> Vec<Object> {
@@ -19,16 +21,19 @@ pub fn some_request(walk: &Walk, chance: &mut Chance) -> [u8; 4] {
     let place = chance.below(offer.len());
     let object = offer[place];
     let position = place as u32 + 1;
-    match chance.below(12) {
+    let offered = object.current();
+    let brim = brim(walk, object, chance.below(2) as u32);
+    match chance.below(15) {
         0..=4 => most(offer),
-        5..=7 => to_the_brim(walk, position, object, chance.below(2) as u32),
-        8 => request(position, object.current(), object.current()),
-        9 => {
-            let current = chance.below(object.current() as usize + 1) as u32;
-            request(position, current, object.current())
-        }
+        5..=7 => request(position, brim, offered),
+        8 => request(position, offered, offered),
+        9 => request(position, chance.below(offered as usize + 1) as u32, offered),
         10 => little(walk.port()),
-        _ => request(position, object.current() + 1, object.current()),
+        11 => request(position, offered + 1, offered),
+        _ => {
+            let current = chance.one_of(&[offered, brim]);
+            some_mixture(position, current, offered, chance)
+        }
     }
 }
 
@@ -43,12 +48,11 @@ fn most(offer: &[Object]) -> [u8; 4] {
 
 /// As much as there is for this port while its neighbours hold what they hold, and
 /// so many steps of current beyond, which only fit once a neighbour gives up.
-fn to_the_brim(walk: &Walk, position: u32, object: Object, beyond: u32) -> [u8; 4] {
+fn brim(walk: &Walk, object: Object, beyond: u32) -> u32 {
     let rack = walk.rack();
     let others = rack.taken() - walk.bay().taken();
     let fits = (rack.supply - others) / object.voltage();
-    let current = object.current().min(fits + beyond);
-    request(position, current, object.current())
+    object.current().min(fits + beyond)
 }
 
 /// Whether the request fits, and there is power for it once all neighbours have

@@ -4,10 +4,11 @@
 use crate::offer::Object;
 use crate::port::State;
 use crate::rack::{Place, SetUp};
+use crate::request_objects::{request, with_flags, FULL_FIELD, MISMATCH};
 use crate::step_cases::try_each;
 use crate::step_events;
 use crate::step_situations::{go, Situation};
-use crate::step_walk::{request, Walk, FIVE_VOLT, NINE_VOLT, REQUEST};
+use crate::step_walk::{Walk, FIVE_VOLT, NINE_VOLT, REQUEST};
 
 /// Worth 120,000, the limit of the paper's rack.
 pub const TWENTY_VOLT: Object = Object::new(400, 300);
@@ -37,6 +38,7 @@ pub const ROOMY: &[Situation] = &[
     (State::Accepting, "attach ask2"),
     (State::Accepting, "attach acked ask2"),
     (State::Accepting, "contract2 ask1 new-one"),
+    (State::Accepting, "contract1 ask-more"),
     (State::Moving, "attach failed ask2 acked"),
     (State::Moving, "contract2 ask1 acked"),
     (State::Telling, "attach acked ask2 acked supplyready"),
@@ -102,8 +104,12 @@ pub fn go_in_rack(walk: &mut Walk, way: &str) {
             "contract1" => go(walk, "attach acked ask1 acked supplyready acked"),
             "contract2" => go(walk, "attach acked ask2 acked supplyready acked"),
             "contract3" => go_in_rack(walk, "attach acked ask3 acked supplyready acked"),
-            // 20 V 2.25 A, worth 90,000
+            // 20 V 2.25 A, worth 90,000; also where as much as can be is named
             "ask3" => walk.hear(REQUEST, &request(3, 225, 300)),
+            "ask3-more" => {
+                let object = with_flags(request(3, 225, FULL_FIELD), MISMATCH);
+                walk.hear(REQUEST, &object);
+            }
             plain => go(walk, plain),
         }
     }

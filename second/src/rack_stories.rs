@@ -48,6 +48,11 @@ const STORIES: &[(&str, &str)] = &[
     ("", "attach acked ask3 acked supplyready acked"),
     ("attach acked ask3", "hardreset pshardreset supplyready"),
     ("attach failed ask3", "detach"),
+    // what is named beside capability mismatch is not held
+    (
+        "attach acked ask3-more",
+        "acked supplyready acked ask1 acked supplyready acked",
+    ),
 ];
 
 /// Who holds and who asks.

@@ -4,7 +4,8 @@
 use super::*;
 use crate::port::{Supply, Timer};
 use crate::rack_situations::{alike, go_in_rack, TWENTY_VOLT};
-use crate::step_walk::{request, Walk, FIVE_VOLT, NINE_VOLT, REQUEST};
+use crate::request_objects::request;
+use crate::step_walk::{Walk, FIVE_VOLT, NINE_VOLT, REQUEST};
 
 /// The paper's four ports with a third object, 20 V 3 A, on this supply.
 fn four_ports(supply: u32) -> Walk {

@@ -3,8 +3,9 @@
 //! odd.
 
 use crate::port::{Port, State};
+use crate::request_objects::request;
 use crate::step_situations::{go, LONG_SITUATIONS, SITUATIONS};
-use crate::step_walk::{request, Walk, FIVE_VOLT, GET_SOURCE_CAP, NINE_VOLT, REQUEST};
+use crate::step_walk::{Walk, FIVE_VOLT, GET_SOURCE_CAP, NINE_VOLT, REQUEST};
 use crate::{step_events, step_odd_lines, step_random};
 use std::collections::BTreeSet;
 use std::io::{self, Write};
@@ -48,10 +49,10 @@ fn bring(walk: &mut Walk, way: &str) {
 fn every_pair(walk: &mut Walk) {
     let mut seen: BTreeSet<State> = BTreeSet::new();
     for &(state, way) in SITUATIONS {
-        // Every control type in each state once, and where a timer runs besides.
-        let types = seen.insert(state) || way == "attach acked";
+        // In each state once, and where a timer runs besides.
+        let thorough = seen.insert(state) || way == "attach acked";
         let bring = |walk: &mut Walk| bring(walk, way);
-        let standing = try_each(walk, bring, |port| step_events::all(port, types));
+        let standing = try_each(walk, bring, |port| step_events::all(port, thorough));
         if standing.channel.pending.is_some() {
             retried(walk, way);
         }

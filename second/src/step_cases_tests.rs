@@ -3,7 +3,7 @@
 
 use super::*;
 use crate::hex;
-use crate::meaning::{kind, meaning};
+use crate::meaning::{kind, meaning, Meaning};
 use crate::packet::read;
 use crate::port::Timer;
 use crate::step_lines::{answer_all, Bench, Reply};
@@ -33,8 +33,9 @@ fn every_way_leads_where_it_should() {
     }
 }
 
-/// The event's word; for a packet, its meaning and what its MessageID says, or
-/// the number with which its reading is refused.
+/// The event's word; for a packet, its meaning (a Request with capability mismatch
+/// is one of its own) and what its MessageID says, or the number with which its
+/// reading is refused.
 fn event_name(line: &[u8], port: &Port) -> String {
     let text = String::from_utf8_lossy(line);
     let (word, rest) = text.split_once(' ').unwrap_or((&text, ""));
@@ -46,9 +47,12 @@ fn event_name(line: &[u8], port: &Port) -> String {
         Ok(fields) => fields,
         Err(number) => return format!("refused {number}"),
     };
-    let heard = meaning(kind(fields.extended, objects), fields.message_type);
+    let heard = match meaning(kind(fields.extended, objects), fields.message_type) {
+        Meaning::Request if objects[3] & 4 != 0 => "Mismatch".to_string(),
+        other => format!("{other:?}"),
+    };
     let stored = port.channel.stored == Some(fields.message_id);
-    format!("{heard:?} {}", if stored { "again" } else { "new" })
+    format!("{heard} {}", if stored { "again" } else { "new" })
 }
 
 /// Each event that was understood, with the state it met.
@@ -67,8 +71,8 @@ fn all_pairs() -> BTreeSet<(State, String)> {
 
 const EVENTS: &str = "attach, detach, hardreset, acknowledgement, senderresponse, \
     sourcecapability, pshardreset, supplyready, offer, yes, no, GoodCrc new, Reply new, \
-    GetSourceCap new, SoftReset new, Quiet new, Request new, Unsupported new, refused 1, \
-    refused 2, refused 3, refused 4";
+    GetSourceCap new, SoftReset new, Quiet new, Request new, Mismatch new, Unsupported new, \
+    refused 1, refused 2, refused 3, refused 4";
 
 const REPEATS: &str = "Request again, SoftReset again, GetSourceCap again, Reply again";
 

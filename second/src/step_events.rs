@@ -2,10 +2,11 @@
 //! of event, packets of every meaning, every refusal.
 
 use crate::offer::Object;
-use crate::port::Port;
+use crate::port::{Port, State};
+use crate::request_objects::{mixtures, request, with_flags, FLAGS, FULL_FIELD, MISMATCH};
 use crate::step_walk::{
-    message, new_id, offer_line, packet_line, pending_id, request, ACCEPT, FIVE_VOLT,
-    GET_SOURCE_CAP, GOOD_CRC, NINE_VOLT, REQUEST, SOFT_RESET,
+    message, new_id, offer_line, packet_line, pending_id, ACCEPT, FIVE_VOLT, GET_SOURCE_CAP,
+    GOOD_CRC, NINE_VOLT, REQUEST, SOFT_RESET,
 };
 
 pub const LONE_WORDS: [&str; 10] = [
@@ -21,8 +22,9 @@ pub const LONE_WORDS: [&str; 10] = [
     "no",
 ];
 
-/// Every event; with `types`, also packets of every control type.
-pub fn all(port: &Port, types: bool) -> Vec<String> {
+/// Every event; if `thorough`, also packets of every control type, and the mixed
+/// Requests that otherwise only a port gets that awaits one.
+pub fn all(port: &Port, thorough: bool) -> Vec<String> {
     let mut lines: Vec<String> = LONE_WORDS.map(str::to_string).to_vec();
     lines.extend(good_offers());
     lines.extend(bad_offers().iter().map(|objects| offer_line(objects)));
@@ -31,7 +33,10 @@ pub fn all(port: &Port, types: bool) -> Vec<String> {
     packets.extend(repeats(port));
     packets.extend(requests(port));
     packets.extend(further_messages(port));
-    if types {
+    if thorough || matches!(port.state, State::Offer | State::Discovery | State::Ready) {
+        packets.extend(mixed_requests(port));
+    }
+    if thorough {
         packets.extend((0..32).map(|t| message(t, new_id(port), &[])));
     } else {
         let few = [0, ACCEPT, 4, 6, GET_SOURCE_CAP, 12, SOFT_RESET, 16];
@@ -47,6 +52,7 @@ pub fn few(port: &Port) -> Vec<String> {
     let mut lines: Vec<String> = LONE_WORDS.map(str::to_string).to_vec();
     lines.push(offer_line(&[FIVE_VOLT, NINE_VOLT]));
     lines.push(offer_line(&[]));
+    let more_named = with_flags(request(1, 100, FULL_FIELD), MISMATCH);
     let packets = [
         vec![0x82],
         message(GOOD_CRC, pending_id(port), &[]),
@@ -59,6 +65,7 @@ pub fn few(port: &Port) -> Vec<String> {
         message(8, id, &[]),
         message(REQUEST, id, &request(1, 100, 100)),
         message(REQUEST, id, &request(9, 100, 100)),
+        message(REQUEST, id, &more_named),
     ];
     lines.extend(packets.iter().map(|bytes| packet_line(bytes)));
     lines
@@ -144,7 +151,7 @@ fn repeats(port: &Port) -> Vec<Vec<u8>> {
 fn requests(port: &Port) -> Vec<Vec<u8>> {
     let count = port.last.len() as u32;
     let current = port.last.first().map_or(300, |object| object.current());
-    let mut objects = vec![
+    let objects = [
         request(1, current, current),
         request(1, 0, 0),
         request(1, 40, current),
@@ -154,9 +161,9 @@ fn requests(port: &Port) -> Vec<Vec<u8>> {
         request(15, 100, 100),
         request(1, current + 1, current),
         request(1, current, current + 1),
+        // capability mismatch, and all bits that are ignored beside it
+        with_flags(request(1, 100, FULL_FIELD), FLAGS),
     ];
-    // capability mismatch and other bits that are ignored
-    objects.push((0x1FF0_0000u32 | 100 << 10 | 100).to_le_bytes());
     let id = new_id(port);
     let mut packets: Vec<_> = objects.iter().map(|o| message(REQUEST, id, o)).collect();
     let two = [request(1, 100, 100), request(1, 100, 100)].concat();
@@ -167,6 +174,27 @@ fn requests(port: &Port) -> Vec<Vec<u8>> {
         packet[0] = low;
         packets.push(packet);
     }
+    packets
+}
+
+/// The last object is asked for in all mixtures. Besides, no other bit does what
+/// capability mismatch does, and that does not help a wrong position or two objects.
+fn mixed_requests(port: &Port) -> Vec<Vec<u8>> {
+    let count = port.last.len() as u32;
+    let current = port.last.last().map_or(300, |object| object.current());
+    let small = request(1, 100, 100);
+    let ignored = FLAGS & !MISMATCH;
+    let mut objects = mixtures(count, current, current);
+    objects.extend([
+        with_flags(small, ignored),
+        with_flags(request(1, 100, FULL_FIELD), ignored),
+        with_flags(request(0, 100, 100), MISMATCH),
+        with_flags(request(count + 1, 100, 100), MISMATCH),
+    ]);
+    let id = new_id(port);
+    let mut packets: Vec<_> = objects.iter().map(|o| message(REQUEST, id, o)).collect();
+    let two = [with_flags(small, MISMATCH); 2].concat();
+    packets.push(message(REQUEST, id, &two));
     packets
 }
 

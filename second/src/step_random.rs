@@ -4,11 +4,12 @@
 use crate::chance::Chance;
 use crate::offer::Object;
 use crate::port::State;
+use crate::request_objects::{request, some_mixture};
 use crate::step_events::LONE_WORDS;
 use crate::step_situations::go;
 use crate::step_walk::{
-    message, new_id, offer_line, pending_id, request, Walk, ACCEPT, GET_SOURCE_CAP, GOOD_CRC,
-    REQUEST, SOFT_RESET,
+    message, new_id, offer_line, pending_id, Walk, ACCEPT, GET_SOURCE_CAP, GOOD_CRC, REQUEST,
+    SOFT_RESET,
 };
 
 /// How many lines of a hundred are not what the port awaits, and how many of the
@@ -97,10 +98,11 @@ fn ask(walk: &mut Walk, chance: &mut Chance) {
     let current = offer[place].current();
     let less = chance.below(current as usize + 1) as u32;
     let position = place as u32 + 1;
-    let object = match chance.below(10) {
+    let object = match chance.below(12) {
         0 => request(position, current + 1, current),
         1 => request(chance.below(16) as u32, less, less),
         2..=5 => request(position, less, current),
+        6..=7 => some_mixture(position, less, current, chance),
         _ => request(position, current, current),
     };
     walk.hear(REQUEST, &object);

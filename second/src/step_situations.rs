@@ -4,9 +4,10 @@
 
 use crate::offer::Object;
 use crate::port::State;
+use crate::request_objects::{request, with_flags, MISMATCH};
 use crate::step_walk::{
-    message, offer_line, pending_id, request, Walk, ACCEPT, FIVE_VOLT, GET_SOURCE_CAP, GOOD_CRC,
-    NINE_VOLT, REQUEST, SOFT_RESET,
+    message, offer_line, pending_id, Walk, ACCEPT, FIVE_VOLT, GET_SOURCE_CAP, GOOD_CRC, NINE_VOLT,
+    REQUEST, SOFT_RESET,
 };
 
 pub type Situation = (State, &'static str);
@@ -34,6 +35,7 @@ pub const SITUATIONS: &[Situation] = &[
     (State::Judge, "attach failed ask2"),
     (State::Judge, "contract1 ask2"),
     (State::Judge, "contract2 ask1 new-one"),
+    (State::Judge, "contract1 ask-more"),
     (State::Accepting, "attach acked ask1 yes"),
     (State::Accepting, "contract1 ask2 yes"),
     (State::Accepting, "contract2 ask1 new-one yes"),
@@ -49,6 +51,7 @@ pub const SITUATIONS: &[Situation] = &[
     (State::Ready, "contract1"),
     (State::Ready, "contract2 odd acked"),
     (State::Ready, "contract1 ask-much acked"),
+    (State::Ready, "contract-more"),
     (State::Declining, "contract1 odd"),
     (State::Declining, "contract2 odd new-one"),
     // no contract
@@ -59,6 +62,7 @@ pub const SITUATIONS: &[Situation] = &[
     (State::Refusing, "contract1 ask2 no"),
     (State::Refusing, "contract1 new-strong acked ask-much"),
     (State::Refusing, "contract-small new-weak acked ask-much"),
+    (State::Refusing, "contract-more new-weak acked ask-over"),
     (State::Refusing, "contract1 ask-much new-one"),
     // no longer honoured: position gone, less current, another voltage
     (State::Refusing, "contract2 new-one acked ask-much"),
@@ -120,10 +124,14 @@ pub fn go(walk: &mut Walk, way: &str) {
             "contract1" => go(walk, "attach acked ask1 yes acked supplyready acked"),
             "contract2" => go(walk, "attach acked ask2 yes acked supplyready acked"),
             "contract-small" => go(walk, "attach acked ask-small yes acked supplyready acked"),
+            "contract-more" => go(walk, "attach acked ask-more yes acked supplyready acked"),
             "ask1" => walk.hear(REQUEST, &request(1, 300, 300)),
             "ask2" => walk.hear(REQUEST, &request(2, 300, 300)),
             "ask-small" => walk.hear(REQUEST, &request(1, 100, 150)),
             "ask-much" => walk.hear(REQUEST, &request(1, 1023, 1023)),
+            // 1 A, and 5 A named, which is too much: with capability mismatch, and without
+            "ask-more" => walk.hear(REQUEST, &with_flags(request(1, 100, 500), MISMATCH)),
+            "ask-over" => walk.hear(REQUEST, &request(1, 100, 500)),
             "caps" => walk.hear(GET_SOURCE_CAP, &[]),
             "accept" => walk.hear(ACCEPT, &[]),
             "softreset" => walk.hear(SOFT_RESET, &[]),

@@ -117,10 +117,6 @@ pub fn message(message_type: u8, message_id: u8, objects: &[u8]) -> Vec<u8> {
     bytes
 }
 
-pub fn request(position: u32, current: u32, most_current: u32) -> [u8; 4] {
-    (position << 28 | current << 10 | most_current).to_le_bytes()
-}
-
 /// With nothing pending, that of the next message.
 pub fn pending_id(port: &Port) -> u8 {
     let pending = port.channel.pending.as_ref();
@@ -137,6 +133,13 @@ pub fn new_id(port: &Port) -> u8 {
 
 pub fn packet_line(bytes: &[u8]) -> String {
     with_bytes("packet", bytes)
+}
+
+/// The packet of such a line, behind a port's number or not.
+#[cfg(test)]
+pub fn packet_of(line: &[u8]) -> Option<Vec<u8>> {
+    let word = line.windows(6).position(|word| word == b"packet")?;
+    crate::hex::bytes_of(&line[word + 6..])
 }
 
 pub fn offer_line(objects: &[Object]) -> String {
