@@ -49,7 +49,7 @@ fn position(request: u32) -> u8
     (request / 268435456 % 16) as u8
 }
 
-// Whether a Request names more than is offered, and says so.
+// Whether a Request sets capability mismatch: the receiver wants more than is offered.
 fn is_mismatch(request: u32) -> bool
     ensures { λ m. ⌜ m ≡ isMismatch request ⌝ }
 {
@@ -138,7 +138,8 @@ pub fn good(limit: u32, o: Offer) -> bool
     false
 }
 
-// Whether a Request of this many objects fits an offer.
+// Whether a Request of this many objects fits an offer. With capability mismatch set its maximum may
+// be over what is offered; what it draws, the operating current, may not.
 fn fits_offer(count: u8, request: u32, o: Offer) -> bool
     ensures { λ r. ⌜ r ≡ fits count request o ⌝ }
 {
