@@ -1,9 +1,10 @@
 -- Asking for more than we have (000, 6.4.2.3): with bit 26 clear a Request fits exactly as before, with it set by its operating current alone; what it asks is the
 -- same either way; and every bit outside its four fields is ignored, GiveBack (bit 27) among them. Assumes nothing.
 use Prim.Native.Nat.{ℕ}
-use mathlib.Core.Path.{_≡_, refl}
+use mathlib.Core.Path.{_≡_, refl, ap}
 use mathlib.Core.Bool.{Bool, true, false, _&&_, _||_}
 use Rattle.offers.specs.declared.Offer.{Offer}
+use Rattle.offers.specs.declared.Fit.the-variants.{Fits}
 use Rattle.offers.specs.Objects.{positionOf, isMismatch, operatingOf, maximumOf}
 use Rattle.offers.specs.Requests.{operatingFits, maximumFits, fits, asked, fitOf}
 
@@ -39,6 +40,10 @@ module _ (r q : ℕ) (o : Offer) (position : positionOf r ≡ positionOf q) (ope
   pub asks-the-same : asked r o ≡ asked q o
   unfolding asked
   asks-the-same = rw (position, operating) refl
+
+  pub fit-the-same : (count : ℕ) → fits count r o ≡ true → fits count q o ≡ true → fitOf count r o ≡ fitOf count q o
+  unfolding fitOf
+  fit-the-same count fitting fitting-too = rw (fitting, fitting-too) (ap Fits asks-the-same)
 
   -- THE CLAIM: and no other bit tells, so neither does GiveBack
   pub other-bits-are-ignored : (count : ℕ) → isMismatch r ≡ isMismatch q → maximumOf r ≡ maximumOf q → fitOf count r o ≡ fitOf count q o
