@@ -80,16 +80,19 @@ fn only_fixed_objects_and_other_bits_ignored() {
     assert!(is_good(&[Object(FIVE_VOLT.0 | 0x3FF0_0000)], MOST));
 }
 
+/// All that the paper's second object has.
+const NINE_VOLT_DEAL: Deal = Deal {
+    position: 2,
+    voltage: 180,
+    current: 300,
+    worth: 54_000,
+};
+
 #[test]
 fn a_request_that_fits_takes_its_voltage_from_the_offer() {
     let offer = [FIVE_VOLT, NINE_VOLT];
-    let deal = Deal {
-        position: 2,
-        voltage: 180,
-        current: 300,
-        worth: 54_000,
-    };
-    assert_eq!(asked(&[0x2C, 0xB1, 0x04, 0x20], &offer), Some(deal));
+    let deal = Some(NINE_VOLT_DEAL);
+    assert_eq!(asked(&[0x2C, 0xB1, 0x04, 0x20], &offer), deal);
     let small = asked(&request(1, 10, 300), &offer).unwrap();
     assert_eq!(
         (small.voltage, small.current, small.worth),
@@ -116,16 +119,11 @@ fn a_request_fits_by_position_and_both_currents() {
 #[test]
 fn more_may_be_named_with_capability_mismatch_alone() {
     let offer = [FIVE_VOLT, NINE_VOLT];
-    let deal = Deal {
-        position: 2,
-        voltage: 180,
-        current: 300,
-        worth: 54_000,
-    };
-    assert_eq!(asked(&[0xF4, 0xB1, 0x04, 0x24], &offer), Some(deal));
+    let deal = Some(NINE_VOLT_DEAL);
+    assert_eq!(asked(&[0xF4, 0xB1, 0x04, 0x24], &offer), deal);
     assert_eq!(asked(&[0xF4, 0xB1, 0x04, 0x20], &offer), None);
     // GiveBack beside either
-    assert_eq!(asked(&[0xF4, 0xB1, 0x04, 0x2C], &offer), Some(deal));
+    assert_eq!(asked(&[0xF4, 0xB1, 0x04, 0x2C], &offer), deal);
     assert_eq!(asked(&[0xF4, 0xB1, 0x04, 0x28], &offer), None);
 }
 
