@@ -7,5 +7,6 @@ pub mod Witnesses
 pub mod Demand1
 pub mod Demand2
 pub mod Demand3
+pub mod AsBeforeWithoutMismatch
 pub mod WorkedRequests
 pub mod WrongProgramsAreShutOut

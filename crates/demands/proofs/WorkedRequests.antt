@@ -44,6 +44,7 @@ use Rattle.demands.specs.Programs.{rackNow}
 use Rattle.demands.specs.Ours.{ours}
 use Rattle.demands.specs.Demand2.{Acceptable}
 use Rattle.demands.specs.StarredExamples.{answerOf}
+use Rattle.demands.specs.Fitting.{setsMismatch, NoneSetsIt}
 
 -- what came before, and the rack as it then is
 abbrev events : List Happens
@@ -123,3 +124,8 @@ pub asked-alike :
     × (maximumOf (object (wanting 0x24)) ≡ maximumOf (object (wanting 0x2C)))
 unfolding readOf readingTried refuseIf wordOf fieldsOf objectsOf headerOf isChunked meaningOf bytesOf partOf objectAt goodObject goodFrom goodOffer fits asked fitOf controlOf dataOf pendingId isRepeat ended heard sends onGoodCrc changed standingOf leads onPacket changeOf enter turn happens acknowledged byOutcome nothingDone eventOf firstObject meaningIn heardAs newPacket otherPacket goodCrcHeard byMeaning messageOf packetOf Port.step approves judged settled others answerAt step runBy historyBy heldBy isOffer goodSetting goodSetUp setUp
 asked-alike = (refl, refl, refl, refl, refl, refl, refl, refl, refl)
+
+-- none of what came before sets the bit (AsBeforeWithoutMismatch), and this one does
+pub none-sets-it : NoneSetsIt events × (setsMismatch (packet (wanting 0x24)) ≡ true)
+unfolding readOf readingTried refuseIf wordOf fieldsOf objectsOf isChunked meaningIn meaningOf partOf firstObject
+none-sets-it = ((refl, (refl, (refl, (refl, (refl, (refl, (refl, (refl, tt)))))))), refl)

@@ -5,4 +5,5 @@ pub mod Ours
 pub mod Demand1
 pub mod Demand2
 pub mod Demand3
+pub mod Fitting
 pub mod WrongPrograms

@@ -1,15 +1,15 @@
 -- "What may not be left loose": wrong programs, to be tried against the demands. Each is ours but for one lie, after which it is named.
-use Prim.Native.Nat.{ℕ, max, _+_, _*_, _/_, _%_}
-use mathlib.Core.Bool.{Bool, true, false, cond}
-use mathlib.Core.List.{List, [], _∷_, _++_}
+use Prim.Native.Nat.{ℕ, max, _+_}
+use mathlib.Core.Bool.{Bool, true, false, cond, _&&_, _||_}
+use mathlib.Core.List.{[]}
 use lib.Dec.{leb, eqb}
-use lib.ListN.{take, drop, getD, set}
 use Rattle.ground.specs.declared.Refusal.the-variants.{NotAwaited, NotInRack}
 use Rattle.ground.specs.declared.Verdict.the-variants.{Fine}
 use Rattle.message.specs.Types as Types
 use Rattle.reading.specs.declared.Reading.{Reading}
-use Rattle.reading.specs.Reading.{partOf}
-use Rattle.offers.specs.Objects.{isMismatch}
+use Rattle.offers.specs.Objects.{positionOf, isMismatch}
+use Rattle.offers.specs.Offers.{has}
+use Rattle.offers.specs.Requests.{operatingFits}
 use Rattle.outgoing.specs.Packets.{controlOf}
 use Rattle.power.specs.declared.Change.{Change}
 use Rattle.power.specs.declared.Power.{Power}
@@ -19,18 +19,18 @@ use Rattle.port.specs.declared.Port.{Port}
 use Rattle.port.specs.declared.Answer.{Answer}
 use Rattle.port.specs.declared.Actions.{Actions}
 use Rattle.port.specs.Memory.{stateOf, noActions}
-use Rattle.port.specs.Packets.{firstObject}
 use Rattle.port.specs.Parts.{channel-is, power-is, count-is}
 use Rattle.slot.specs.Load.{loadOf, approves}
 use Rattle.slot.specs.Answers.{hasAsked, judged}
 use Rattle.rack.specs.declared.Rack.{Rack}
 use Rattle.rack.specs.declared.RackAnswer.{RackAnswer}
 use Rattle.rack.specs.Ports.{at, portsIn, inRack, placeOf, total, others, put}
-use Rattle.rack.specs.Steps.{Happening, event, packet, newOffer, ownAnswer, turned, refusedBy, step}
+use Rattle.rack.specs.Steps.{Happening, ownAnswer, turned, refusedBy, step}
 use Rattle.rack.specs.Runs.{Stepping}
 use Rattle.setup.specs.SetUps as SetUps
 use Rattle.demands.specs.Programs.{Program}
 use Rattle.demands.specs.Ours.{ours}
+use Rattle.demands.specs.Fitting.{bothCompared, fittingBy}
 
 -- ours, stepped in another way
 abbrev steppedBy : Stepping → Program
@@ -132,25 +132,15 @@ answersOnceAndThenSleeps = steppedBy (λ r number h. cond (same (stateOf (at r (
 abbrev pub answersAnotherPort : Program
 answersAnotherPort = steppedBy (λ r number h. step r (cond (eqb number 1) 2 number) h)
 
--- ---- packets that are heard with other bytes
-abbrev heardWith : (List ℕ → List ℕ) → Happening → Happening
-heardWith f (event e) = event e
-heardWith f (packet s) = packet (f s)
-heardWith f (newOffer o) = newOffer o
-
-abbrev hearing : (List ℕ → List ℕ) → Program
-hearing f = steppedBy (λ r number h. step r number (heardWith f h))
-
--- bit 26 of a Request is bit 2 of its object's highest byte, the sixth of the packet: never set, as before request 01; always set
+-- ---- other rules of fitting: no capability mismatch is heard, as before request 01; one is heard in every Request; no current of one is compared
 abbrev pub hearsNoMismatch : Program
-hearsNoMismatch = hearing (λ s. set s 5 (getD s 5 0 / 8 * 8 + getD s 5 0 % 4))
+hearsNoMismatch = steppedBy (fittingBy bothCompared)
 
 abbrev pub hearsAMismatchInEveryRequest : Program
-hearsAMismatchInEveryRequest = hearing (λ s. set s 5 (getD s 5 0 / 8 * 8 + 4 + getD s 5 0 % 4))
+hearsAMismatchInEveryRequest = steppedBy (fittingBy operatingFits)
 
--- a Request with the bit is taken for one of no current
 abbrev pub comparesNoCurrentOfAMismatch : Program
-comparesNoCurrentOfAMismatch = hearing (λ s. cond (isMismatch (firstObject (partOf s))) (take 2 s ++ (0 ∷ 0 ∷ 0 ∷ drop 5 s)) s)
+comparesNoCurrentOfAMismatch = steppedBy (fittingBy (λ count r o. (eqb count 1 && has o (positionOf r)) && (isMismatch r || bothCompared count r o)))
 
 -- ---- packets and set-ups
 abbrev pub readsAllAlike : Program
