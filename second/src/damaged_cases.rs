@@ -1,9 +1,11 @@
 //! Short nights that cannot be read to their end, each for another reason
 //! (docs/NIGHT.md, "Cut and damaged files").
 
+use crate::full_rack;
 use crate::night_fields::{LIMIT, OFFER_OBJECTS, PORT_GROUP, RACK_GROUP, SHARE, SUPPLY};
-use crate::night_pieces::story;
-use crate::night_writer::add_field;
+use crate::night_pieces::{largest_set_up, places_of_the_largest, story};
+use crate::night_writer::{add_field, add_set_up};
+use crate::rack::MOST_PORTS;
 use std::io::{self, Write};
 
 /// Writes the night with this number, counted from 0; false where there is none.
@@ -19,6 +21,7 @@ pub fn print(number: usize, mut output: impl Write) -> io::Result<bool> {
 
 fn all() -> Vec<Vec<u8>> {
     let mut nights = cut();
+    nights.extend(cut_in_the_largest());
     nights.extend(long_fields());
     nights.extend(damaged().iter().map(|field| around(field)));
     nights
@@ -41,6 +44,20 @@ fn cut() -> Vec<Vec<u8>> {
     ] {
         nights.push([&story, head].concat());
     }
+    nights
+}
+
+/// In the largest set-up, behind the story, whose rack then stands; and just behind
+/// it, where the rack of 32 ports stands, in the second of two events at the last.
+fn cut_in_the_largest() -> Vec<Vec<u8>> {
+    let largest = largest_set_up();
+    let within = places_of_the_largest().into_iter();
+    let within = within.filter(|&place| place < largest.len());
+    let mut nights: Vec<Vec<u8>> = within
+        .map(|place| [&story(), &largest[..place]].concat())
+        .collect();
+    let attach = [32, 1, 0, 32];
+    nights.push([&largest[..], &attach, &attach[..3]].concat());
     nights
 }
 
@@ -146,7 +163,36 @@ fn wrong_rack_groups() -> Vec<Vec<u8>> {
         groups.push([&wrong[..], &supply].concat());
         groups.push([&port[..], wrong, &supply].concat());
     }
+    groups.extend(wrong_large_groups());
     groups
+}
+
+/// Wrong only at the end: in a rack that has all ports it can have, and in some that
+/// have more. The layout comes before their number, which is bad besides.
+fn wrong_large_groups() -> Vec<Vec<u8>> {
+    let supply = number(SUPPLY);
+    let mut groups = Vec::new();
+    for count in [MOST_PORTS, MOST_PORTS + 1, 257] {
+        let ports = ports_of_seven_objects(count);
+        groups.push([&ports[..], &supply, &supply].concat());
+        let mut other_tag = [&ports[..], &supply].concat();
+        other_tag[ports.len()] = SHARE;
+        groups.push(other_tag);
+        // as if the last object had a byte more
+        let mut longer = [&ports[..], &supply].concat();
+        longer[ports.len() - 30] += 1;
+        groups.push(longer);
+        groups.push(ports);
+    }
+    groups
+}
+
+/// As they stand in a rack group, before the supply.
+fn ports_of_seven_objects(count: usize) -> Vec<u8> {
+    let mut file = Vec::new();
+    add_set_up(&mut file, &full_rack::set_up(count)).expect("257 ports fit");
+    let group = &file[3..];
+    group[..group.len() - number(SUPPLY).len()].to_vec()
 }
 
 fn wrong_port_groups() -> Vec<Vec<u8>> {

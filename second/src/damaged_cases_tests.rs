@@ -1,8 +1,9 @@
 //! That each case is damaged as it is meant to be, and none is there twice.
 
 use super::*;
-use crate::night_fields::{record_of, Damage};
+use crate::night_fields::{record_of, Damage, Record};
 use crate::night_reader::{End, NightReader};
+use crate::rack::Rack;
 use std::collections::BTreeSet;
 
 fn end_of(night: &[u8]) -> End {
@@ -44,6 +45,27 @@ fn damaged_in_the_way_it_is_meant() {
     // while the parts they are made of are right
     let group = [good_port(), good_port(), number(SUPPLY)].concat();
     assert!(record_of(RACK_GROUP, &group).is_ok());
+    for count in [32, 33, 257] {
+        let group = [ports_of_seven_objects(count), number(SUPPLY)].concat();
+        assert!(record_of(RACK_GROUP, &group).is_ok(), "{count}");
+    }
+}
+
+#[test]
+fn cut_in_the_largest_set_up_and_behind_it() {
+    let nights = cut_in_the_largest();
+    let (behind, within) = nights.split_last().unwrap();
+    let length = story().len() as u64;
+    assert!(within.iter().all(|night| end_of(night) == End::Cut(length)));
+    assert_eq!(within.len(), 8);
+    // behind the set-up and the attach
+    let place = largest_set_up().len() as u64 + 4;
+    assert_eq!(end_of(behind), End::Cut(place));
+    let mut reader = NightReader::new(&behind[..]);
+    let Ok(Record::SetUp(set_up)) = reader.next().unwrap() else {
+        panic!("the set-up is whole");
+    };
+    assert!(Rack::set_up(&set_up).is_ok_and(|rack| rack.bays.len() == 32));
 }
 
 #[test]

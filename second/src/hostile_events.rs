@@ -2,6 +2,7 @@
 //! cannot be read, bad offers, events out of turn, and ports that are not there.
 
 use crate::chance::Chance;
+use crate::rack_nights::far_past;
 use crate::step_events::{bad_offers, malformed_packets, LONE_WORDS};
 use crate::step_random::anything;
 use crate::step_walk::{offer_line, Walk};
@@ -49,8 +50,8 @@ fn elsewhere(walk: &mut Walk, chance: &mut Chance) {
         "offer 2C 91 01 00",
         "yes",
     ];
-    let next = walk.rack().bays.len() + 1;
-    let number = chance.one_of(&[0, next, 9, 255]);
+    let ports = walk.rack().bays.len();
+    let number = chance.one_of(&[0, ports + 1, far_past(ports), 255]);
     let line = chance.one_of(&LINES);
     walk.raw(format!("{number} {line}").as_bytes());
 }

@@ -7,6 +7,7 @@
 mod chance;
 mod channel;
 mod damaged_cases;
+mod full_rack;
 mod hex;
 mod hostile_events;
 mod line_shapes;
@@ -32,6 +33,7 @@ mod rack_cases;
 mod rack_lines;
 mod rack_nights;
 mod rack_odd_lines;
+mod rack_odd_numbers;
 mod rack_receivers;
 mod rack_requests;
 mod rack_set_ups;
@@ -77,7 +79,7 @@ These write what to try the programs with:
                 the small cut or damaged night with the number N, counted from 0;
                 past the last one it writes nothing and ends with status 3
   random-night SEED EVENTS PORTS
-                a night by chance: so many events at a rack of 1 to 8 ports
+                a night by chance: so many events at a rack of 1 to 32 ports
 
 And this tells how fast a program is (docs/SPEED.md):
   race ROUNDS NIGHT PROGRAM
@@ -152,7 +154,7 @@ fn random(seed: &str, events: &str, ports: &str, output: impl Write) -> io::Resu
     let (Ok(seed), Ok(events), Ok(ports @ 1..=rack::MOST_PORTS)) = numbers else {
         return Ok(wrong_arguments(
             "second random-night: expected three numbers: a seed, how many events, \
-             and how many ports, from 1 to 8",
+             and how many ports, from 1 to 32",
         ));
     };
     random_night::print(seed, events, ports, output)?;

@@ -16,12 +16,21 @@ impl Write for Failing {
 }
 
 #[test]
+fn a_random_night_has_1_to_32_ports() {
+    for (ports, written) in [("0", false), ("1", true), ("32", true), ("33", false)] {
+        let mut night = Vec::new();
+        run(&["random-night", "1", "10", ports], &mut night).unwrap();
+        assert_eq!(!night.is_empty(), written, "{ports}");
+    }
+}
+
+#[test]
 fn a_closed_pipe_is_quiet_and_a_full_disk_is_not() {
     let commands: [&[&str]; 4] = [
         &["packet-cases"],
         &["steps-cases"],
         &["damaged-cases", "5"],
-        &["random-night", "1", "100", "8"],
+        &["random-night", "1", "100", "32"],
     ];
     for words in commands {
         let end = |kind| closed_pipe_is_quiet(run(words, Failing(kind)));

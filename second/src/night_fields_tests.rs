@@ -23,7 +23,7 @@ const EVENTS: [(u8, Event); 12] = [
 fn every_event_has_its_tag_and_any_port() {
     for (tag, event) in EVENTS {
         assert_eq!(tag_of(&event), tag);
-        for port in [0, 1, 8, 9, 255] {
+        for port in [0, 1, 8, 9, 32, 33, 255] {
             let value = [&[port], bytes_of(&event)].concat();
             assert_eq!(record_of(tag, &value), Ok(Record::Event(port, event)));
         }

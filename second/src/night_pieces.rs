@@ -1,10 +1,11 @@
 //! Fields in every place of the pieces of 64 KiB in which a night is read
 //! (docs/NIGHT.md), and fields that are longer than a piece.
 
+use crate::full_rack;
 use crate::night_cases::{add, add_rack};
 use crate::offer::Object;
 use crate::port::Event;
-use crate::rack::{Place, SetUp};
+use crate::rack::{Place, SetUp, LARGEST_SUPPLY, MOST_PORTS};
 use crate::rack_situations::alike;
 use crate::request_objects::request;
 use crate::step_walk::{message, FIVE_VOLT, GOOD_CRC, NINE_VOLT, REQUEST};
@@ -22,6 +23,37 @@ pub fn add_all(file: &mut Vec<u8>) {
         fill(file, before);
         file.extend(&story);
     }
+    let largest = largest_set_up();
+    for before in places_of_the_largest() {
+        fill(file, before);
+        file.extend(&largest);
+        add(file, MOST_PORTS as u8, &Event::Attach);
+    }
+}
+
+/// As many bytes as a good set-up can have.
+pub fn largest_set_up() -> Vec<u8> {
+    let mut file = Vec::new();
+    add_rack(&mut file, &full_rack::set_up(MOST_PORTS));
+    file
+}
+
+/// Where a piece ends in the largest set-up; not everywhere, for each takes a piece.
+/// Its head has 3 bytes, a port 48, and the supply 7.
+pub fn places_of_the_largest() -> [usize; 9] {
+    let (first, last) = (3, 3 + 31 * 48);
+    let supply = 3 + 32 * 48;
+    [
+        2,
+        first,
+        first + 8 * 48,
+        first + 8 * 48 + 1,
+        last - 1,
+        last + 47,
+        supply,
+        supply + 6,
+        supply + 7,
+    ]
 }
 
 /// A night with fields of many kinds, from a set-up to a contract and a new offer.
@@ -86,7 +118,7 @@ fn with_offers(offers: Vec<Vec<Object>>) -> SetUp {
         offer,
     };
     SetUp {
-        supply: 1_600_000,
+        supply: LARGEST_SUPPLY,
         places: offers.into_iter().map(place).collect(),
     }
 }

@@ -5,8 +5,9 @@
 use crate::offer::{is_good, Object, Offer};
 use crate::port::{Answer, Event, Port, State};
 
-pub const MOST_PORTS: usize = 8;
-pub const LARGEST_SUPPLY: u32 = 1_600_000;
+/// Both by request 08, "Thirty-two ports".
+pub const MOST_PORTS: usize = 32;
+pub const LARGEST_SUPPLY: u32 = 6_400_000;
 const SMALLEST_SUPPLY: u32 = 30_000;
 const SMALLEST_SHARE: u32 = 30_000;
 const LARGEST_LIMIT: u32 = 200_000;
@@ -36,7 +37,8 @@ impl SetUp {
             && self.shares() <= self.supply
     }
 
-    /// Only for few places, and good ones: others may add to more than fits.
+    /// Only for as many places as a rack has, and good ones: others may add to more
+    /// than fits.
     fn shares(&self) -> u32 {
         self.places.iter().map(|place| place.share).sum()
     }

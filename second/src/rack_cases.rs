@@ -1,16 +1,17 @@
 //! Lines about racks to try the step program with (docs/STEPS.md): the paper's
 //! examples 8 and 7, Requests that ask or name too much, set-ups at their bounds,
-//! numbers that are not in the rack, every event in every state, neighbours that
-//! give up power, nights by chance, and lines whose text is odd.
+//! the largest rack, numbers that are not in the rack, every event in every state,
+//! neighbours that give up power, nights by chance, and lines whose text is odd.
 
 use crate::offer::Object;
 use crate::port::State;
 use crate::rack::{Place, SetUp, LARGEST_SUPPLY, MOST_PORTS};
 use crate::rack_situations::{alike, go_in_rack, TWENTY_VOLT};
 use crate::request_objects::{mixtures, request};
-use crate::step_events::bad_offers;
+use crate::step_events::{bad_offers, LONE_WORDS};
 use crate::step_walk::{offer_line, Walk, FIVE_VOLT, NINE_VOLT, REQUEST};
-use crate::{rack_nights, rack_odd_lines, rack_set_ups, rack_situations, rack_stories};
+use crate::{full_rack, rack_nights, rack_odd_lines, rack_odd_numbers};
+use crate::{rack_set_ups, rack_situations, rack_stories};
 use std::io::{self, Write};
 
 pub fn print_all(mut output: impl Write) -> io::Result<()> {
@@ -21,6 +22,7 @@ pub fn print_all(mut output: impl Write) -> io::Result<()> {
     example_7(&mut walk);
     asking_for_more(&mut walk);
     whole_supply(&mut walk);
+    full_rack::add_all(&mut walk);
     own_limits(&mut walk);
     numbers(&mut walk);
     not_awaited(&mut walk);
@@ -28,6 +30,7 @@ pub fn print_all(mut output: impl Write) -> io::Result<()> {
     rack_situations::add_all(&mut walk);
     rack_stories::add_all(&mut walk);
     rack_nights::add_all(&mut walk);
+    rack_odd_numbers::add_all(&mut walk);
     rack_odd_lines::add_all(&mut walk);
     // What follows the last line's end is a line too.
     walk.lines.extend(b"1 attach");
@@ -95,18 +98,20 @@ pub fn whole_supply(walk: &mut Walk) {
         limit: 200_000,
         offer: vec![Object::new(100, 500), Object::new(400, 500)],
     };
-    for supply in [LARGEST_SUPPLY, LARGEST_SUPPLY - 1] {
-        walk.set_up(&SetUp {
-            supply,
-            places: vec![place.clone(); MOST_PORTS],
-        });
-        for number in 1..=MOST_PORTS {
-            ask(walk, number, 2, 500);
-            go_in_rack(walk, "acked supplyready acked");
+    for (ports, limits) in [(8, 1_600_000), (MOST_PORTS, LARGEST_SUPPLY)] {
+        for supply in [limits, limits - 1] {
+            walk.set_up(&SetUp {
+                supply,
+                places: vec![place.clone(); ports],
+            });
+            for number in 1..=ports {
+                ask(walk, number, 2, 500);
+                go_in_rack(walk, "acked supplyready acked");
+            }
+            // the last one again, for a little less
+            go_in_rack(walk, "caps acked");
+            ask(walk, ports, 2, 499);
         }
-        // the last one again, for a little less
-        go_in_rack(walk, "caps acked");
-        ask(walk, MOST_PORTS, 2, 499);
     }
 }
 
@@ -154,16 +159,23 @@ fn numbers(walk: &mut Walk) {
         "no",
         "detach",
     ];
-    for ports in [1, 4, MOST_PORTS] {
-        walk.set_up(&alike(240_000, ports, &[FIVE_VOLT, NINE_VOLT]));
-        let mut numbers: Vec<String> = (0..=12).map(|number| number.to_string()).collect();
-        let far = [99, 100, 128, 255, 256, 257, 256 + ports, 512, 513, 769, 999];
-        numbers.extend(far.map(|number| number.to_string()));
+    for ports in [1, 4, 8, 9, MOST_PORTS - 1, MOST_PORTS] {
+        walk.set_up(&alike(1_200_000, ports, &[FIVE_VOLT, NINE_VOLT]));
+        let near = (0..=12).chain(MOST_PORTS - 2..=MOST_PORTS + 2);
+        let far = [40, 64, 99, 100, 128, 255, 256, 257, 256 + ports, 512, 513];
+        let numbers = near.chain(far).chain([512 + ports, 769, 999]);
+        let mut numbers: Vec<String> = numbers.map(|number| number.to_string()).collect();
         let padded = ["00", "000", "01", "001", "04", "008", "09", "010"];
         numbers.extend(padded.map(str::to_string));
+        numbers.extend(["031", "032", "033"].map(str::to_string));
         for number in &numbers {
             for event in EVENTS {
                 walk.raw(format!("{number} {event}").as_bytes());
+            }
+        }
+        for number in [0, MOST_PORTS, MOST_PORTS + 1, 40, 255, ports + 1] {
+            for word in LONE_WORDS {
+                walk.raw(format!("{number} {word}").as_bytes());
             }
         }
     }
@@ -216,3 +228,7 @@ fn port_beside(walk: &mut Walk) {
 #[cfg(test)]
 #[path = "rack_cases_tests.rs"]
 mod tests;
+
+#[cfg(test)]
+#[path = "rack_sizes_tests.rs"]
+mod sizes_tests;

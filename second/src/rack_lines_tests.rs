@@ -56,9 +56,12 @@ fn the_set_up_stays_in_hand() {
     // a new supply puts it away
     let anew = format!("{}supply 240000\n{PLACE}setup", four_ports(240_000));
     assert!(last_answer(&anew).ends_with("rack: 30000 of 240000"));
-    let ninth = format!("{}{}setup", four_ports(300_000), PLACE.repeat(5));
-    let expected = "refused 10, bad set-up | held: nothing | - | rack: 120000 of 300000";
-    assert_eq!(last_answer(&ninth), expected);
+    // up to 32 ports
+    let with_more = |more| format!("{}{}setup", four_ports(990_000), PLACE.repeat(more));
+    let all = "actions: none | held: nothing | - | rack: 960000 of 990000";
+    assert_eq!(last_answer(&with_more(28)), all);
+    let bad = "refused 10, bad set-up | held: nothing | - | rack: 120000 of 990000";
+    assert_eq!(last_answer(&with_more(29)), bad);
 }
 
 /// From the paper: port 2 is offered 9 V, asks for it, and gets it or not.
@@ -100,7 +103,14 @@ fn refusals_at_a_port() {
         assert_eq!(last(line), expected, "{line}");
     }
     let outside = "refused 9, port number not in the rack | held: nothing | - |";
-    for line in ["0 attach", "5 packet", "9 offer", "257 yes", "999 attach"] {
+    for line in [
+        "0 attach",
+        "5 packet",
+        "9 offer",
+        "32 no",
+        "257 yes",
+        "999 attach",
+    ] {
         assert_eq!(last(line), format!("{outside} {rack}"), "{line}");
         assert_eq!(last_answer(line), format!("{outside} rack: 0 of 0"));
     }

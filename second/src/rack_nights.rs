@@ -1,5 +1,5 @@
-//! Nights by chance, from fixed seeds: racks of one to eight ports whose supply
-//! does not do for all, with receivers that want more than their share.
+//! Nights by chance, from fixed seeds: racks of one to 32 ports whose supply does
+//! not do for all, with receivers that want more than their share.
 
 use crate::chance::Chance;
 use crate::rack::{Place, SetUp, MOST_PORTS};
@@ -7,11 +7,15 @@ use crate::rack_receivers::Receiver;
 use crate::rack_requests::strong_offer;
 use crate::step_walk::Walk;
 
-const SEEDS: [u64; 5] = [101, 102, 103, 104, 106];
+const SEEDS: [u64; 4] = [101, 102, 103, 105];
 
-/// A port that is alone has nobody to wait for, but has to come everywhere too.
+/// A port that is alone has nobody to wait for, but has to come everywhere too. The
+/// nights of large racks are many, and so they are short.
 fn moves(ports: usize) -> usize {
-    200 * (ports + 1)
+    match ports {
+        1..=8 => 150 * (ports + 1),
+        _ => 300,
+    }
 }
 
 pub fn add_all(walk: &mut Walk) {
@@ -33,6 +37,14 @@ fn night(walk: &mut Walk, chance: &mut Chance, ports: usize) {
             0 => aside(walk, chance, ports),
             _ => receivers[index].act(walk, chance),
         }
+    }
+}
+
+/// A number that the rack does not have: 9 is past the small ones, and 33 past all.
+pub fn far_past(ports: usize) -> usize {
+    match ports {
+        1..=8 => 9,
+        _ => MOST_PORTS + 1,
     }
 }
 
@@ -69,7 +81,7 @@ fn aside(walk: &mut Walk, chance: &mut Chance, ports: usize) {
     match chance.below(3) {
         0 => walk.raw(word.as_bytes()),
         1 => {
-            let number = chance.one_of(&[0, ports + 1, 9, 256 + ports, 999]);
+            let number = chance.one_of(&[0, ports + 1, far_past(ports), 256 + ports, 999]);
             walk.raw(format!("{number} {word}").as_bytes());
         }
         _ => {

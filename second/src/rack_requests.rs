@@ -7,6 +7,8 @@ use crate::offer::{asked, Object};
 use crate::port::Port;
 use crate::request_objects::{request, some_mixture};
 use crate::step_walk::Walk;
+#[cfg(test)]
+use crate::{port::Event, port::State, rack::Bay};
 
 /// Two to five objects; the last ones are worth all that the port may ever give.
 pub fn strong_offer(chance: &mut Chance, limit: u32) -> Vec<Object> {
@@ -62,6 +64,14 @@ pub fn could_have(walk: &Walk, object: &[u8]) -> bool {
     let shares: u32 = rack.bays.iter().map(|bay| bay.share).sum();
     let room = rack.supply - (shares - walk.bay().share);
     asked(object, &walk.port().last).is_some_and(|deal| deal.worth <= room)
+}
+
+/// The power that a port asks for by this event, if it then awaits a power answer.
+#[cfg(test)]
+pub fn judged(bay: &Bay, event: &Event) -> Option<u32> {
+    let mut alone = bay.port.clone();
+    alone.step(event, bay.limit).ok()?;
+    (alone.state == State::Judge).then_some(alone.accepted.worth)
 }
 
 /// A quarter of the first object's current.

@@ -59,20 +59,27 @@ pub fn all() -> Vec<SetUp> {
     set_ups
 }
 
-/// The supply has enough for 16 shares, so that the number alone is bad. 257 would
-/// be one port if it were kept in eight bits.
+/// The first supply has enough for 20 shares and the largest for 213, so that up to
+/// there the number alone is good or bad. If it were kept in eight bits, 257 would be
+/// one port, 264 eight, and 288 all 32.
 fn numbers_of_ports() -> Vec<SetUp> {
-    let counts = (0..=MOST_PORTS + 2).chain([16, 257]);
-    let racks = counts.map(|ports| alike(600_000, ports, &[FIVE_VOLT, NINE_VOLT]));
-    racks.collect()
+    let rack = |supply| move |ports| alike(supply, ports, &[FIVE_VOLT, NINE_VOLT]);
+    let few = (0..=10).chain([16, 257]).map(rack(600_000));
+    let many = (MOST_PORTS - 1..=MOST_PORTS + 2).chain([9, 40, 64, 213]);
+    let far = [254, 255, 256, 257, 264, 288, 300];
+    few.chain(many.chain(far).map(rack(LARGEST_SUPPLY)))
+        .collect()
 }
 
 fn supplies() -> Vec<SetUp> {
     let few = [0, 1, 29_999, 30_000, 30_001, 65_536];
+    // the largest while a rack had at most eight ports, which is one of many now
+    let before = [1_599_999, 1_600_000, 1_600_001, 1_665_536];
     let many = [LARGEST_SUPPLY - 1, LARGEST_SUPPLY, LARGEST_SUPPLY + 1];
-    let supplies = few.iter().chain(&many).chain(&[1_665_536, 9_999_999]);
+    let far = [LARGEST_SUPPLY + 65_536, 9_999_999];
+    let supplies = few.iter().chain(&before).chain(&many).chain(&far);
     let racks = supplies.flat_map(|&supply| {
-        [1, 2, MOST_PORTS].map(|ports| alike(supply, ports, &[FIVE_VOLT, NINE_VOLT]))
+        [1, 2, 8, MOST_PORTS].map(|ports| alike(supply, ports, &[FIVE_VOLT, NINE_VOLT]))
     });
     racks.collect()
 }
@@ -89,6 +96,7 @@ fn with_place(place: &Place) -> Vec<SetUp> {
         different(0, 4),
         different(3, 4),
         different(7, 8),
+        different(MOST_PORTS - 1, MOST_PORTS),
     ]
 }
 
@@ -124,10 +132,17 @@ fn shares_and_limits() -> Vec<SetUp> {
     places.iter().flat_map(with_place).collect()
 }
 
+/// Met, and passed and missed by 1, in racks of every size.
 fn sums_of_shares() -> Vec<SetUp> {
+    const SHARES: [u32; 4] = [30_000, 30_001, 90_000, 120_000];
     let mut set_ups = Vec::new();
     for ports in 1..=MOST_PORTS {
-        for share in [30_000, 30_001, 90_000, 120_000] {
+        let shares = match ports {
+            1..=8 | MOST_PORTS => &SHARES[..],
+            // in turn, for large racks have many lines
+            _ => &SHARES[ports % 4..][..1],
+        };
+        for &share in shares {
             let sum = share * ports as u32;
             for supply in [sum - 1, sum, sum + 1] {
                 let mut set_up = alike(supply, ports, &[FIVE_VOLT, NINE_VOLT]);
@@ -173,7 +188,8 @@ fn first_offers() -> Vec<SetUp> {
     places.iter().flat_map(with_place).collect()
 }
 
-/// Everything as large as it may be, and one too much.
+/// Everything as large as it may be, and one too much; also in a rack of eight
+/// ports, where the supply may be larger still.
 fn largest() -> Vec<SetUp> {
     let offer = vec![Object::new(100, 500), Object::new(400, 500)];
     let place = |share| Place {
@@ -181,21 +197,25 @@ fn largest() -> Vec<SetUp> {
         limit: 200_000,
         offer: offer.clone(),
     };
-    let rack = |supply, share| SetUp {
-        supply,
-        places: vec![place(share); MOST_PORTS],
-    };
-    vec![
-        rack(LARGEST_SUPPLY, 200_000),
-        rack(LARGEST_SUPPLY - 1, 200_000),
-        rack(LARGEST_SUPPLY + 1, 200_000),
-        rack(LARGEST_SUPPLY, 30_000),
-    ]
+    let racks = [(8, 1_600_000), (MOST_PORTS, LARGEST_SUPPLY)].map(|(ports, limits)| {
+        let rack = |supply, share| SetUp {
+            supply,
+            places: vec![place(share); ports],
+        };
+        [
+            rack(limits, 200_000),
+            rack(limits - 1, 200_000),
+            rack(limits + 1, 200_000),
+            rack(limits, 30_000),
+        ]
+    });
+    racks.into_iter().flatten().collect()
 }
 
 /// The set-up stays in hand: ports are added to one that was already set up.
 fn one_by_one(walk: &mut Walk) {
-    walk.raw(b"supply 600000");
+    // enough for 40 shares
+    walk.raw(b"supply 1200000");
     for _ in 0..MOST_PORTS + 2 {
         walk.raw(b"setup");
         walk.raw(b"1 attach");

@@ -1,6 +1,7 @@
 //! Two ports that want the same power. One holds it and gives it up step by step;
 //! after each step the other asks, so that it shows from when on the power is free.
 
+use crate::rack::MOST_PORTS;
 use crate::rack_situations::{alike, begin, go_in_rack, TWENTY_VOLT};
 use crate::step_walk::{Walk, FIVE_VOLT, NINE_VOLT};
 
@@ -55,16 +56,24 @@ const STORIES: &[(&str, &str)] = &[
     ),
 ];
 
-/// Who holds and who asks.
+/// Who holds and who asks: in a small rack, and from end to end of the largest.
 const PAIRS: [(usize, usize); 3] = [(1, 2), (3, 1), (2, 3)];
+const FAR_PAIR: (usize, usize) = (MOST_PORTS, 1);
 
 pub fn add_all(walk: &mut Walk) {
-    // just enough for 90,000 at one port and the shares of two
-    walk.set_up(&alike(150_000, 3, &[FIVE_VOLT, NINE_VOLT, TWENTY_VOLT]));
+    tell(walk, MOST_PORTS, &[FAR_PAIR]);
+    tell(walk, 3, &PAIRS);
+    both_wait(walk);
+}
+
+fn tell(walk: &mut Walk, ports: usize, pairs: &[(usize, usize)]) {
+    // just enough for 90,000 at one port and the shares of the others
+    let supply = 60_000 + 30_000 * ports as u32;
+    walk.set_up(&alike(supply, ports, &[FIVE_VOLT, NINE_VOLT, TWENTY_VOLT]));
     for &(start, way) in STORIES {
         let steps: Vec<&str> = way.split_whitespace().collect();
         for count in 0..=steps.len() {
-            for (holder, asker) in PAIRS {
+            for &(holder, asker) in pairs {
                 walk.turn_to(holder);
                 begin(walk, start);
                 go_in_rack(walk, &steps[..count].join(" "));
@@ -73,10 +82,10 @@ pub fn add_all(walk: &mut Walk) {
             }
         }
     }
-    both_wait(walk);
 }
 
-/// Each is refused while the other holds, and asks again when the other is done.
+/// Each is refused while the other holds, and asks again when the other is done. The
+/// rack of three is still in hand.
 fn both_wait(walk: &mut Walk) {
     walk.raw(b"setup");
     for turn in 0..12 {

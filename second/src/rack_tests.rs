@@ -87,14 +87,17 @@ fn is_set_up(set_up: &SetUp) -> bool {
 }
 
 #[test]
-fn a_set_up_is_good_with_1_to_8_ports_and_supply_for_their_shares() {
+fn a_set_up_is_good_with_1_to_32_ports_and_supply_for_their_shares() {
     let rack = |supply, ports| is_set_up(&alike(supply, ports, &[FIVE_VOLT]));
-    for ports in 0..=12 {
-        assert_eq!(rack(1_000_000, ports), (1..=8).contains(&ports), "{ports}");
+    for ports in 0..=300 {
+        assert_eq!(rack(6_400_000, ports), (1..=32).contains(&ports), "{ports}");
     }
     assert!(!rack(29_999, 1) && rack(30_000, 1));
-    assert!(rack(1_600_000, 1) && !rack(1_600_001, 1));
-    for ports in 1..=8 {
+    for ports in [1, 2, 8, 9, 32] {
+        assert!(rack(1_600_001, ports) && rack(6_399_999, ports), "{ports}");
+        assert!(rack(6_400_000, ports) && !rack(6_400_001, ports), "{ports}");
+    }
+    for ports in 1..=32 {
         let shares = 30_000 * ports as u32;
         assert!(rack(shares, ports) && !rack(shares - 1, ports), "{ports}");
     }
@@ -106,7 +109,7 @@ fn a_set_up_is_good_with_1_to_8_ports_and_supply_for_their_shares() {
 fn share_limit_and_first_offer_of_every_port() {
     let with = |share, limit, offer: &[Object]| {
         let place = |index: usize| {
-            let mut set_up = alike(1_600_000, 8, &[FIVE_VOLT]);
+            let mut set_up = alike(6_400_000, 32, &[FIVE_VOLT]);
             let offer = offer.to_vec();
             set_up.places[index] = Place {
                 share,
@@ -115,7 +118,7 @@ fn share_limit_and_first_offer_of_every_port() {
             };
             is_set_up(&set_up)
         };
-        assert_eq!(place(0), place(7));
+        assert_eq!(place(0), place(31));
         place(0)
     };
     let small = [Object::new(100, 1)];
@@ -175,8 +178,8 @@ fn the_power_rule() {
     supply_needed([0, 39_999, 50_001], 30_000, 120_001);
     supply_needed([0, 90_000, 60_000], 30_001, 180_001);
     // the limit, however large the supply
-    assert!(answer(1_600_000, 54_000, shares, [0; 3], 54_000));
-    assert!(!answer(1_600_000, 54_000, shares, [0; 3], 54_001));
+    assert!(answer(6_400_000, 54_000, shares, [0; 3], 54_000));
+    assert!(!answer(6_400_000, 54_000, shares, [0; 3], 54_001));
 }
 
 /// What is asked within the share is always there; that is what a share is for.
@@ -274,7 +277,7 @@ fn a_refusal_changes_nothing_and_9_comes_first() {
         (Event::Power(false), 8),
     ] {
         assert_eq!(rack.step(2, &event), Err(number), "{event:?}");
-        for outside in [0, 5, 8, 9, 255, 256, 258, 999, usize::MAX] {
+        for outside in [0, 5, 8, 9, 32, 33, 255, 256, 258, 999, usize::MAX] {
             assert_eq!(rack.step(outside, &event), Err(9), "{event:?}");
         }
         assert_eq!(Rack::default().step(1, &event), Err(9));

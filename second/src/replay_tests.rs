@@ -135,6 +135,7 @@ fn the_ports_of_a_bad_set_up() {
     for (ports, shown) in [
         (0, 0),
         (9, 9),
+        (33, 33),
         (254, 254),
         (255, 255),
         (256, 255),

@@ -198,7 +198,7 @@ fn the_nights_have_all_kinds_with_power_and_without() {
 /// From a tenth to a fifth of all.
 #[test]
 fn a_night_by_chance_has_them_among_many_ordinary_ones() {
-    for ports in [1, 4, 8] {
+    for ports in [1, 4, 8, 32] {
         let census = Census::of_night(|night| random_night::print(11, 40_000, ports, night));
         let (rarest, without_power) = (census.rarest(&AWAITING), census.rarest_without_power());
         assert!(
