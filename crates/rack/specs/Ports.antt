@@ -12,9 +12,9 @@ use Rattle.slot.specs.declared.Slot.{Slot}
 use Rattle.slot.specs.Load.{loadOf, approves}
 use Rattle.rack.specs.declared.Rack.{Rack}
 
--- "1 to 8 ports"
+-- "1 to 32 ports"
 abbrev pub mostPorts : ℕ
-mostPorts = 8
+mostPorts = 32
 
 -- what stands past the end of the slots; no port of a rack is there
 abbrev pub nobody : Slot

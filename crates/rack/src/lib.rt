@@ -21,7 +21,7 @@ use slot::Slot;
 use source::Timer;
 
 // The most ports of a rack.
-pub const PORTS: usize = 8;
+pub const PORTS: usize = 32;
 
 pub struct Rack {
     pub slots: [Slot; PORTS],

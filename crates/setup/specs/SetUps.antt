@@ -1,4 +1,4 @@
--- "Refusal numbers": "A set-up is good with 1 to 8 ports, numbered from 1, a supply of 30,000 to 1,600,000 units, for each port
+-- "Refusal numbers": "A set-up is good with 1 to 32 ports, numbered from 1, a supply of 30,000 to 6,400,000 units, for each port
 -- 30,000 <= share <= limit <= 200,000, shares adding to at most the supply, and a good first offer for each port."
 use Prim.Native.Nat.{ℕ, zero, suc}
 use mathlib.Core.Bool.{Bool, true, false, _&&_}
@@ -21,7 +21,7 @@ abbrev pub least : ℕ
 least = 30000
 
 abbrev pub largestSupply : ℕ
-largestSupply = 1600000
+largestSupply = 6400000
 
 abbrev pub largestLimit : ℕ
 largestLimit = 200000

@@ -11,7 +11,7 @@ use rack::PORTS;
 use rack::Rack;
 use slot::Slot;
 
-pub const LARGEST_SUPPLY: u32 = 1600000;
+pub const LARGEST_SUPPLY: u32 = 6400000;
 
 const LARGEST_LIMIT: u32 = 200000;
 
