@@ -1,4 +1,5 @@
 pub mod Answers
 pub mod Keeping
 pub mod Through
+pub mod PortAlone
 pub mod NothingLoose

@@ -17,6 +17,8 @@ use rack::RackAnswer;
 use setup::Started;
 use source::Timer;
 
+pub mod alone;
+
 // What a field comes to.
 pub struct Field {
     pub found: Found,
@@ -49,7 +51,7 @@ pub struct Left {
     pub kept: usize,
 }
 
-const NO_ACTIONS: Actions = Actions {
+pub(crate) const NO_ACTIONS: Actions = Actions {
     good_crc: GoodCrc {
         sent: false,
         bytes: [0u8; 2],

@@ -1,6 +1,8 @@
 // The fields of a night, each told in a line. What a field comes to is `fields`' answer; here it is only
 // written down.
 ghost use mathlib.Core.Path.{_≡_};
+ghost use Prim.Native.Nat.{_+_, _-_, _%_};
+ghost use Rattle.rack.specs.Ports.{mostPorts};
 ghost use Rattle.fields.specs.Answers.{Through};
 use crate::answer::put_answer;
 use crate::answer::put_verdict;
@@ -11,6 +13,7 @@ use crate::table::put_table;
 use crate::table::state_of;
 use crate::what::put_what;
 use fields::Field;
+use fields::alone;
 use ground::Verdict;
 use libc::STDOUT_FILENO;
 use night::Found;
@@ -49,13 +52,18 @@ fn say(out: &[u8], n: usize) -> bool {
     false
 }
 
+// Port 1 has the first slot. The remainder changes no number of a port, and shows that there is a slot for
+// it.
+fn slot_of(port: u8) -> usize
+    ensures { λ i. ⌜ i ≡ (port + mostPorts - 1) % mostPorts ⌝ }
+{
+    (port as usize + PORTS - 1) % PORTS
+}
+
 // The number of the state of a port; the number behind the last state where the rack has no such port.
 fn state_in(r: Rack, port: u8) -> u8 {
     if r.has(port) {
-        // Port 1 has the first slot. The remainder changes no number of a port, and shows that there is a
-        // slot for it.
-        let i = (port as usize + PORTS - 1) % PORTS;
-        return state_of(r.slots[i]);
+        return state_of(r.slots[slot_of(port)]);
     }
     16
 }
@@ -109,16 +117,12 @@ impl Told {
     }
 
     // An event, its answer, and the state that it led to.
-    fn event(mut self, out: &mut [u8], field: &[u8], f: Field) -> Told {
-        let port = port_of(field);
-        let verdict = f.verdict;
-        let actions = f.actions;
-        let rack = f.rack;
+    fn event(mut self, out: &mut [u8], field: &[u8], v: Verdict, a: Actions, state: u8) -> Told {
         let events = std::num::wrapping_add_u64(self.events, 1);
-        let numbers = [events, port as u64];
+        let numbers = [events, port_of(field) as u64];
         let front = fill(out, self.end, b"# | port # | ", 0, &numbers);
         let what = put_what(out, front, field);
-        let end = put_back(out, what, verdict, actions, state_in(rack, port));
+        let end = put_back(out, what, v, a, state);
         self.events = events;
         self.to(out, end)
     }
@@ -139,7 +143,9 @@ impl Told {
         if let Found::SetUp = found {
             return self.set_up(out, before, field, verdict);
         }
-        self.event(out, field, f)
+        let actions = f.actions;
+        let state = state_in(f.rack, port_of(field));
+        self.event(out, field, verdict, actions, state)
     }
 }
 
@@ -153,7 +159,8 @@ fn reached(rack: Rack, at: usize, told: Told) -> Course
     }
 }
 
-// Goes through a piece, up to the first field that cannot be read.
+// Goes through a piece, up to the first field that cannot be read. A port that answers by itself is stepped
+// in its place: to hand the whole rack on and back takes longer than most answers.
 pub fn run(out: &mut [u8], r: Rack, t: Told, s: &[u8]) -> Course
     ensures { λ c. ⌜ Through r (now (s .entry)) (c .rack) (c .at) ⌝ }
 {
@@ -164,6 +171,18 @@ pub fn run(out: &mut [u8], r: Rack, t: Told, s: &[u8]) -> Course
     while 0 < left {
         left -= 1;
         let field = &s[at..];
+        let port = port_of(field);
+        let i = slot_of(port);
+        let x = alone::first(rack.slots[i], port, field);
+        if rack.has(port) & x.settled {
+            at += x.size;
+            let verdict = x.verdict;
+            let actions = x.actions;
+            let u = x.slot;
+            rack.slots[i] = u;
+            told = told.event(out, field, verdict, actions, state_of(u));
+            continue;
+        }
         let f = fields::first(rack, field);
         if !f.read {
             return reached(rack, at, told);

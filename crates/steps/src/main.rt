@@ -79,32 +79,26 @@ struct Kept {
     bench: Bench,
 }
 
-impl Kept {
-    fn with(self, c: u8) -> Kept {
-        let line = self.line;
-        let bench = self.bench;
-        if c == b'\n' {
-            return Kept {
-                line: Line::new(),
-                bench: respond(line, bench),
-            };
-        }
-        Kept {
-            line: line.with(c),
-            bench: bench,
-        }
-    }
-}
-
-// Goes through some input and answers each line that ends in it.
+// Goes through some input and answers each line that ends in it. The bench holds a whole rack, and so it is
+// handed on only there.
 fn take_in(begun: Kept, input: &[u8]) -> Kept {
-    let mut k = begun;
+    let mut line = begun.line;
+    let mut bench = begun.bench;
     let mut i = 0;
     while i < input.len() {
-        k = k.with(input[i]);
+        let c = input[i];
         i += 1;
+        if c == b'\n' {
+            bench = respond(line, bench);
+            line = Line::new();
+            continue;
+        }
+        line = line.with(c);
     }
-    k
+    Kept {
+        line: line,
+        bench: bench,
+    }
 }
 
 struct Turn {

@@ -6,10 +6,10 @@ use Rattle.steps.proofs.take_in.Statement.{statement}
 use Rattle.steps.proofs.take_in.Tie as tie
 
 abbrev Inv-loop : tie.InvT-loop
-Inv-loop input k₀ i₀ k i = Unit {0}
+Inv-loop input line₀ bench₀ i₀ line bench i = Unit {0}
 
 abbrev μ-loop : tie.MeasureT-loop
-μ-loop input k₀ i₀ k i = length input - i
+μ-loop input line₀ bench₀ i₀ line bench i = length input - i
 
 pub take-in-spec : {M : Type 1} → statement M
 take-in-spec =
@@ -19,8 +19,12 @@ take-in-spec =
     μ-loop
     (λ c. tt)
     (λ c. search needs)
+    (λ c. search needs)
+    (λ c κs. search needs)
     (λ c κs. search needs)
     (λ c. search needs)
+    (λ c. tt)
+    (λ c κs. search needs)
     (λ c. search needs)
     (λ c. tt)
     (λ c. search needs))
