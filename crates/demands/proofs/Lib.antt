@@ -8,5 +8,7 @@ pub mod Demand1
 pub mod Demand2
 pub mod Demand3
 pub mod AsBeforeWithoutMismatch
+pub mod AsBeforeUpToEightPorts
+pub mod ThirtyTwoPorts
 pub mod WorkedRequests
 pub mod WrongProgramsAreShutOut

@@ -65,6 +65,7 @@ use Rattle.demands.specs.Demand2.{Acceptable, seen, Demand2}
 use Rattle.demands.specs.Demand3.{Demand3}
 use Rattle.demands.specs.WrongPrograms as Wrong
 use Rattle.demands.proofs.WorkedRequests.{first, wanting, drawing}
+use Rattle.demands.proofs.ThirtyTwoPorts as Large
 
 -- ---- the night desk, and what came to it
 abbrev u : SetUp
@@ -328,3 +329,24 @@ changes-the-buffer-of-a-refused-write d =
 
 pub refuses-every-set-up : Demand1 Wrong.refusesEverySetUp → ⊥
 refuses-every-set-up d = true-not-false (sym (ap isFine (d .good-is-set-up u (cases .good) .0)))
+
+-- ---- other limits: nine ports are good, and a port or a unit over the most is not
+pub record Judged : Type 0 where
+  pub nine-ports : goodSetUp (Large.alike 9 30000 6400000) ≡ true
+  pub port-over : goodSetUp (Large.alike 33 30000 6400000) ≡ false
+  pub unit-over : goodSetUp (Large.alike 32 30000 6400001) ≡ false
+
+judgements : Judged
+unfolding objectAt goodObject goodFrom goodOffer goodSetting goodSetUp
+judgements = record { nine-ports = refl; port-over = refl; unit-over = refl }
+
+pub stays-at-eight-ports : Demand1 Wrong.staysAtEightPorts → ⊥
+stays-at-eight-ports d = true-not-false (sym (ap isFine (d .good-is-set-up (Large.alike 9 30000 6400000) (judgements .nine-ports) .0)))
+
+pub has-thirty-three-ports : Demand1 Wrong.hasThirtyThreePorts → ⊥
+unfolding objectAt goodObject goodFrom goodOffer goodSetting
+has-thirty-three-ports d = true-not-false (ap isFine (d .bad-is-ten (Large.alike 33 30000 6400000) (judgements .port-over) .0))
+
+pub takes-one-unit-more : Demand1 Wrong.takesOneUnitMore → ⊥
+unfolding objectAt goodObject goodFrom goodOffer goodSetting
+takes-one-unit-more d = true-not-false (ap isFine (d .bad-is-ten (Large.alike 32 30000 6400001) (judgements .unit-over) .0))

@@ -30,6 +30,7 @@ use Rattle.rack.specs.Runs.{Stepping}
 use Rattle.setup.specs.SetUps as SetUps
 use Rattle.demands.specs.Programs.{Program}
 use Rattle.demands.specs.Ours.{ours}
+use Rattle.demands.specs.Limits.{steppedUpTo, setUpUpTo}
 use Rattle.demands.specs.Fitting.{bothCompared, fittingBy}
 
 -- ours, stepped in another way
@@ -141,6 +142,19 @@ hearsAMismatchInEveryRequest = steppedBy (fittingBy operatingFits)
 
 abbrev pub comparesNoCurrentOfAMismatch : Program
 comparesNoCurrentOfAMismatch = steppedBy (fittingBy (λ count r o. (eqb count 1 && has o (positionOf r)) && (isMismatch r || bothCompared count r o)))
+
+-- ---- other limits: those of before request 08; and a port or a unit over ours
+abbrev limitedTo : ℕ → ℕ → Program
+limitedTo most largest = record { read = ours .read; part = ours .part; write = ours .write; buffer = ours .buffer; setUp = setUpUpTo most largest; step = steppedUpTo most }
+
+abbrev pub staysAtEightPorts : Program
+staysAtEightPorts = limitedTo 8 1600000
+
+abbrev pub hasThirtyThreePorts : Program
+hasThirtyThreePorts = limitedTo 33 6400000
+
+abbrev pub takesOneUnitMore : Program
+takesOneUnitMore = limitedTo 32 6400001
 
 -- ---- packets and set-ups
 abbrev pub readsAllAlike : Program
