@@ -4,8 +4,8 @@ use denote.Ref.{now}
 use Rattle.ground.proofs.Settles.{Settles, same}
 use Rattle.fields.proofs.first.Kinds as first-k
 use Rattle.fields.proofs.first.Reads as first-c
-use Rattle.fields.proofs.alone.first.Kinds as alone-k
-use Rattle.fields.proofs.alone.first.Reads as alone-c
+use Rattle.fields.proofs.alone.at_port.Kinds as alone-k
+use Rattle.fields.proofs.alone.at_port.Reads as alone-c
 use Rattle.fields.proofs.carry_over.Kinds as carry-over-k
 use Rattle.fields.proofs.carry_over.Reads as carry-over-c
 

@@ -57,7 +57,7 @@ fn answered(t: Slot, here: bool, a: Answer, size: usize) -> Alone
 }
 
 // What the first field of some bytes comes to at the port of a number.
-pub fn first(t: Slot, number: u8, s: &[u8]) -> Alone
+pub fn at_port(t: Slot, number: u8, s: &[u8]) -> Alone
     ensures { λ x. ⌜ x ≡ aloneOf t number (now (s .entry)) ⌝ }
 {
     let found = night::next(s);

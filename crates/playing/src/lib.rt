@@ -11,7 +11,7 @@ ghost use Rattle.ground.specs.declared.Verdict.the-variants.{Refused};
 ghost use Rattle.source.specs.declared.State.{State};
 ghost use Rattle.port.specs.Memory.{stateOf, noActions};
 ghost use Rattle.rack.specs.Ports.{mostPorts, loads};
-ghost use Rattle.tally.specs.Counts.{told};
+ghost use Rattle.tally.specs.Counts.{told, sumsOf};
 ghost use Rattle.playing.specs.Nights.{begun, isAccepted, nightIn};
 ghost use Rattle.playing.specs.Meeting.{heldBy, Small};
 use ground::Refusal;
@@ -26,6 +26,7 @@ use rack::Rack;
 use slot::Slot;
 use source::State;
 use source::Timer;
+use tally::Sums;
 use tally::Tally;
 
 mod turns;
@@ -67,16 +68,16 @@ fn nobody(t: Tally, number: u8) -> Tally
     )
 }
 
-// The answer of the port that an event came to, which was in a state before.
-fn answered(t: Tally, number: u8, was: State, a: Answer) -> Tally
-    ensures { λ r. ⌜ r ≡ told t number (a .verdict) (a .actions) was (stateOf (a .port)) (a .port .power .held) ⌝ }
+// The answer of the port that an event came to, which was in a state before: all but the count by verdict.
+fn answered(t: Tally, number: u8, was: State, a: Answer) -> Sums
+    ensures { λ r. ⌜ r ≡ sumsOf (told t number (a .verdict) (a .actions) was (stateOf (a .port)) (a .port .power .held)) ⌝ }
 {
     let q = a.port;
     let phase = q.phase;
     let is = phase.state;
     let v = a.verdict;
     let actions = a.actions;
-    t.told(number, v, actions, was, is, q.power.held)
+    t.sums(number, v, actions, was, is, q.power.held)
 }
 
 // How many ports a rack of this count has.
@@ -176,7 +177,14 @@ pub fn night(r: Rack, t: Tally, s: &[u8]) -> Played
                 };
                 slots[i] = u;
                 total = moved(total, was, u.load());
-                tally = answered(tally, number, state, a);
+                let sums = answered(tally, number, state, a);
+                let verdict = a.verdict;
+                let k = tally::verdict_number(verdict) as usize;
+                tally.verdicts[k] = tally::one_more(tally.verdicts[k]);
+                tally.accepts = sums.accepts;
+                tally.rejects = sums.rejects;
+                tally.hard_resets = sums.hard_resets;
+                tally.checksum = sums.checksum;
                 continue;
             }
             tally = nobody(tally, number);

@@ -173,7 +173,7 @@ pub fn run(out: &mut [u8], r: Rack, t: Told, s: &[u8]) -> Course
         let field = &s[at..];
         let port = port_of(field);
         let i = slot_of(port);
-        let x = alone::first(rack.slots[i], port, field);
+        let x = alone::at_port(rack.slots[i], port, field);
         if rack.has(port) & x.settled {
             at += x.size;
             let verdict = x.verdict;

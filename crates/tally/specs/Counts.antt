@@ -9,6 +9,7 @@ use Rattle.source.specs.declared.State.{State}
 use Rattle.source.specs.States.{same}
 use Rattle.port.specs.declared.Actions.{Actions}
 use Rattle.tally.specs.declared.Tally.{Tally}
+use Rattle.tally.specs.declared.Sums.{Sums}
 use Rattle.tally.specs.Checksum.{mixed, verdictNumber, checked}
 
 -- one more, as far as the place for it goes
@@ -35,6 +36,10 @@ told t port v a before after held =
       «hard_resets» = countedIf (comesTo State.Hard before after) (t .«hard_resets»);
       checksum = checked (t .checksum) port v a after held;
     }
+
+-- all of it but the answers by verdict
+abbrev pub sumsOf : Tally → Sums
+sumsOf t = record { accepts = t .accepts; rejects = t .rejects; «hard_resets» = t .«hard_resets»; checksum = t .checksum }
 
 -- a set-up's answer: it is no event, and counts only where it is refused
 unfoldable pub setUpTold : Tally → Verdict → Tally

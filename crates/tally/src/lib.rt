@@ -5,7 +5,7 @@ ghost use mathlib.Core.Path.{_≡_};
 ghost use Prim.Native.Nat.{_<_};
 ghost use Rattle.source.specs.declared.State.{State};
 ghost use Rattle.tally.specs.Checksum.{mixed, verdictNumber, timerNumber, supplyNumber, crcNumber, bit, mixedPacket, checked};
-ghost use Rattle.tally.specs.Counts.{oneMore, noTally, comesTo, countedIf, told, setUpTold};
+ghost use Rattle.tally.specs.Counts.{oneMore, noTally, comesTo, countedIf, told, sumsOf, setUpTold};
 use ground::Verdict;
 use outgoing::Packet;
 use port::Actions;
@@ -17,6 +17,14 @@ use source::Timer;
 pub struct Tally {
     // Answers by the number of their verdict: those that were not refused stand first.
     pub verdicts: [u64; 11],
+    pub accepts: u64,
+    pub rejects: u64,
+    pub hard_resets: u64,
+    pub checksum: u32,
+}
+
+// All of it but the answers by verdict: a loop that keeps those in their place need not hand them on.
+pub struct Sums {
     pub accepts: u64,
     pub rejects: u64,
     pub hard_resets: u64,
@@ -37,7 +45,7 @@ pub fn new() -> Tally
 }
 
 // The number of a verdict, which is a place among the counts too.
-fn verdict_number(v: Verdict) -> u8
+pub fn verdict_number(v: Verdict) -> u8
     ensures { λ r. ⌜ (r ≡ verdictNumber v) × (r < 11) ⌝ }
 {
     match v {
@@ -123,7 +131,7 @@ fn checked(sum: u32, port: u8, v: Verdict, a: Actions, state: State, held: u32) 
 }
 
 // One more, as far as the place for it goes.
-fn one_more(n: u64) -> u64
+pub fn one_more(n: u64) -> u64
     ensures { λ r. ⌜ r ≡ oneMore n ⌝ }
 {
     if n < u64::MAX { n + 1 } else { u64::MAX }
@@ -145,8 +153,32 @@ fn comes_to(s: State, before: State, after: State) -> bool
 }
 
 impl Tally {
-    // An event's answer: at which port, what was answered, the port's state before and after, and what it
-    // then holds.
+    // The sums with an event's answer in them: at which port, what was answered, the port's state before and
+    // after, and what it then holds.
+    pub fn sums(
+        self,
+        port: u8,
+        v: Verdict,
+        a: Actions,
+        before: State,
+        after: State,
+        held: u32,
+    ) -> Sums
+        ensures { λ r. ⌜ r ≡ sumsOf (told self port v a before after held) ⌝ }
+    {
+        let accepts = counted_if(comes_to(State::Accepting, before, after), self.accepts);
+        let rejects = counted_if(comes_to(State::Refusing, before, after), self.rejects);
+        let hard_resets = counted_if(comes_to(State::Hard, before, after), self.hard_resets);
+        let checksum = checked(self.checksum, port, v, a, after, held);
+        Sums {
+            accepts: accepts,
+            rejects: rejects,
+            hard_resets: hard_resets,
+            checksum: checksum,
+        }
+    }
+
+    // An event's answer, taken in.
     pub fn told(
         self,
         port: u8,
@@ -158,13 +190,14 @@ impl Tally {
     ) -> Tally
         ensures { λ r. ⌜ r ≡ told self port v a before after held ⌝ }
     {
+        let s = self.sums(port, v, a, before, after, held);
         let k = verdict_number(v) as usize;
         let mut t = self;
         t.verdicts[k] = one_more(t.verdicts[k]);
-        t.accepts = counted_if(comes_to(State::Accepting, before, after), self.accepts);
-        t.rejects = counted_if(comes_to(State::Refusing, before, after), self.rejects);
-        t.hard_resets = counted_if(comes_to(State::Hard, before, after), self.hard_resets);
-        t.checksum = checked(self.checksum, port, v, a, after, held);
+        t.accepts = s.accepts;
+        t.rejects = s.rejects;
+        t.hard_resets = s.hard_resets;
+        t.checksum = s.checksum;
         t
     }
 

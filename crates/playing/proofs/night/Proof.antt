@@ -9,6 +9,7 @@ use Rattle.ground.proofs.Parts.{rest}
 use Rattle.rack.proofs.Loads.{from-one, place-in-slots, long}
 use Rattle.setup.specs.SetUps.{setUp}
 use Rattle.night.specs.declared.Laid.{Laid}
+use Rattle.tally.proofs.ByParts.{by-parts}
 use Rattle.playing.specs.Meeting.{heldBy}
 use Rattle.playing.proofs.Sums.{rackIn}
 use Rattle.playing.proofs.Kept.{Kept, none-left, stops-unlaid, stops-unread, event-reaches, set-up-reaches, absent, can-weigh, present, refused-set-up, accepted-set-up}
@@ -52,8 +53,15 @@ night-spec =
     (λ c κs. search needs)
     (λ c κs. rw (c .before .before .before .load .ensures) (can-weigh (c .before .before .before .before .before .before .before .before .before .before .before .before .before .before .before .loop .inv) (c .before .before .before .before .before .before .before .before .before .before .before .before .before .before .loop-test .taken) _ (rest (c .before .before .before .before .before .before .before .before .before .before .before .before .before .before .before .loop .at) (now (c .before .before .before .before .before .before .before .before .before .before .before .before .before .before .before .before .before .before .before .args .s))) (c .before .before .before .before .before .before .before .before .before .before .before .before .next .result) (c .before .before .before .before .before .before .before .before .before .before .before .before .next .ensures) (sym (c .before .before .before .before .before .before .before .before .before .before .before .is-event .ensures) ∙ c .before .before .before .before .before .before .before .before .before .before .if1 .taken) (c .before .before .before .before .before .before .before .before .number-in .result) (c .before .before .before .before .before .before .before .before .number-in .ensures) (sym (c .before .before .before .before .before .before .before .is-in .ensures) ∙ c .before .before .before .before .before .before .if2 .taken) _ refl _ refl))
     (λ c κs. search needs)
-    (λ c. let h : 0 < c .before .before .before .before .before .before .before .before .before .before .before .before .before .before .before .before .before .loop .left = c .before .before .before .before .before .before .before .before .before .before .before .before .before .before .before .before .loop-test .taken in omega arith)
-    (λ c. rw (c .before .before .before .before .before .before .before .before .before .before .before .size .ensures) (present (c .before .before .before .before .before .before .before .before .before .before .before .before .before .before .before .before .before .loop .inv) (c .before .before .before .before .before .before .before .before .before .before .before .before .before .before .before .before .loop-test .taken) _ (rest (c .before .before .before .before .before .before .before .before .before .before .before .before .before .before .before .before .before .loop .at) (now (c .before .before .before .before .before .before .before .before .before .before .before .before .before .before .before .before .before .before .before .before .before .args .s))) (c .before .before .before .before .before .before .before .before .before .before .before .before .before .before .next .result) (c .before .before .before .before .before .before .before .before .before .before .before .before .before .before .next .ensures) (sym (c .before .before .before .before .before .before .before .before .before .before .before .before .before .is-event .ensures) ∙ c .before .before .before .before .before .before .before .before .before .before .before .before .if1 .taken) (c .before .before .before .before .before .before .before .before .before .before .number-in .result) (c .before .before .before .before .before .before .before .before .before .before .number-in .ensures) (sym (c .before .before .before .before .before .before .before .before .before .is-in .ensures) ∙ c .before .before .before .before .before .before .before .before .if2 .taken) _ refl _ refl (c .before .before .before .before .stepped .result) (rw (← c .before .before .before .before .before .load .ensures) (c .before .before .before .before .stepped .ensures)) (c .before .moved .result) (c .answered .result) (rw (← c .before .before .before .before .before .load .ensures, ← c .before .before .load2 .ensures) (c .before .moved .ensures)) (rw (← c .before .before .load2 .ensures) (search needs)) (c .answered .ensures)))
+    (λ c κs. search needs)
+    (λ c. search needs)
+    (λ c. search needs)
+    (λ c. omega (arith, c .verdict-number .ensures .1))
+    (λ c κs. search needs)
+    (λ c. search needs)
+    (λ c. omega (arith, c .before .before .verdict-number .ensures .1))
+    (λ c. let h : 0 < c .before .before .before .before .before .before .before .before .before .before .before .before .before .before .before .before .before .before .before .before .loop .left = c .before .before .before .before .before .before .before .before .before .before .before .before .before .before .before .before .before .before .before .loop-test .taken in omega arith)
+    (λ c. rw (c .before .before .before .before .before .before .before .before .before .before .before .before .before .before .size .ensures) (present (c .before .before .before .before .before .before .before .before .before .before .before .before .before .before .before .before .before .before .before .before .loop .inv) (c .before .before .before .before .before .before .before .before .before .before .before .before .before .before .before .before .before .before .before .loop-test .taken) _ (rest (c .before .before .before .before .before .before .before .before .before .before .before .before .before .before .before .before .before .before .before .before .loop .at) (now (c .before .before .before .before .before .before .before .before .before .before .before .before .before .before .before .before .before .before .before .before .before .before .before .before .args .s))) (c .before .before .before .before .before .before .before .before .before .before .before .before .before .before .before .before .before .next .result) (c .before .before .before .before .before .before .before .before .before .before .before .before .before .before .before .before .before .next .ensures) (sym (c .before .before .before .before .before .before .before .before .before .before .before .before .before .before .before .before .is-event .ensures) ∙ c .before .before .before .before .before .before .before .before .before .before .before .before .before .before .before .if1 .taken) (c .before .before .before .before .before .before .before .before .before .before .before .before .before .number-in .result) (c .before .before .before .before .before .before .before .before .before .before .before .before .before .number-in .ensures) (sym (c .before .before .before .before .before .before .before .before .before .before .before .before .is-in .ensures) ∙ c .before .before .before .before .before .before .before .before .before .before .before .if2 .taken) _ refl _ refl (c .before .before .before .before .before .before .before .stepped .result) (rw (← c .before .before .before .before .before .before .before .before .load .ensures) (c .before .before .before .before .before .before .before .stepped .ensures)) (c .before .before .before .before .moved .result) _ (rw (← c .before .before .before .before .before .before .before .before .load .ensures, ← c .before .before .before .before .before .load2 .ensures) (c .before .before .before .before .moved .ensures)) (rw (← c .before .before .before .before .before .load2 .ensures) (search needs)) (by-parts _ _ _ _ _ _ _ (c .before .before .before .answered .result) (c .before .before .before .answered .ensures) _ (c .before .before .verdict-number .ensures .0) (c .one-more .result) (c .one-more .ensures))))
     (λ c κs. search needs)
     (λ c. let h : 0 < c .before .before .before .before .before .before .before .before .before .before .loop .left = c .before .before .before .before .before .before .before .before .before .loop-test .taken in omega arith)
     (λ c. rw (c .before .before .before .before .size .ensures) (absent (c .before .before .before .before .before .before .before .before .before .before .loop .inv) (c .before .before .before .before .before .before .before .before .before .loop-test .taken) _ (rest (c .before .before .before .before .before .before .before .before .before .before .loop .at) (now (c .before .before .before .before .before .before .before .before .before .before .before .before .before .before .args .s))) (c .before .before .before .before .before .before .before .next .result) (c .before .before .before .before .before .before .before .next .ensures) (sym (c .before .before .before .before .before .before .is-event .ensures) ∙ c .before .before .before .before .before .if1 .taken) (c .before .before .before .number-in .result) (c .before .before .before .number-in .ensures) (sym (c .before .before .is-in .ensures) ∙ c .before .if2 .left) (c .nobody .result) (c .nobody .ensures)))

@@ -9,19 +9,11 @@ told-spec =
     tie.close
     (tie.spec
     (λ c κs. tt)
-    (λ c. search needs)
-    (λ c. search needs)
-    (λ c. search needs)
     (λ c κs. tt)
     (λ c. search needs)
     (λ c. search needs)
+    (λ c. search needs)
     (λ c κs. tt)
-    (λ c κs. tt)
-    (λ c κs. tt)
-    (λ c κs. tt)
-    (λ c κs. tt)
-    (λ c κs. tt)
-    (λ c κs. tt)
-    (λ c.
-    let b1 = c .before .before .before .before .before .before in
-    rw (c .checked .ensures, c .before .counted-if3 .ensures, c .before .before .comes-to3 .ensures, c .before .before .before .counted-if2 .ensures, c .before .before .before .before .comes-to2 .ensures, c .before .before .before .before .before .counted-if .ensures, b1 .comes-to .ensures, b1 .before .one-more .ensures, b1 .before .before .before .verdict-number .ensures .0)))
+    (λ c. search needs)
+    (λ c. search needs)
+    (λ c. rw (c .one-more .ensures, c .before .before .verdict-number .ensures .0, c .before .before .before .sums .ensures)))

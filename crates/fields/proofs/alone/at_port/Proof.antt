@@ -2,12 +2,12 @@ use borrow.Author.Needs.{needs}
 use mathlib.Core.Path.{_∙_}
 use Rattle.port.specs.Calls as Port
 use Rattle.fields.proofs.PortAlone.{as-found}
-use Rattle.fields.proofs.alone.first.Statement.{statement}
-use Rattle.fields.proofs.alone.first.Tie as tie
+use Rattle.fields.proofs.alone.at_port.Statement.{statement}
+use Rattle.fields.proofs.alone.at_port.Tie as tie
 
-pub first-spec : {M : Type 1} → statement M
+pub at-port-spec : {M : Type 1} → statement M
 unfolding Port.step
-first-spec =
+at-port-spec =
     tie.close
     (tie.spec
     (λ c κs. search needs)
