@@ -39,7 +39,7 @@ rackValue (p ∷ ports) supply = fieldBytes 17 (portValue p) ++ rackValue ports 
 unfoldable pub rackBytes : List PortGroup → ℕ → List ℕ
 rackBytes ports supply = fieldBytes 16 (rackValue ports supply)
 
--- ---- the set-up that it is: its first eight ports have a place
+-- ---- the set-up that it is: its first ports have a place, as many as a rack can have
 -- the first n of a list, with d for those that are not there
 abbrev pub firsts : {A : Type 0} → A → ℕ → List A → List A
 firsts d zero l = []

@@ -14,6 +14,7 @@ use Rattle.ground.specs.declared.Verdict.{Verdict}
 use Rattle.ground.specs.declared.Verdict.the-variants.{Fine, Refused}
 use Rattle.source.specs.declared.State.{State}
 use Rattle.port.specs.declared.Answer.{Answer}
+use Rattle.port.specs.declared.Port.{Port}
 use Rattle.port.specs.Memory.{stateOf, noActions}
 use Rattle.portclaims.proofs.Truth.{true-not-false}
 use Rattle.slot.specs.declared.Slot.{Slot}
@@ -205,13 +206,13 @@ module _ {r : Rack} {t : Tally} {s : List ℕ} {slots : List Slot} {count supply
       pub can-weigh : (loadOf slot ≤ sum) × (sum ≤ mostPorts * 4294967295)
       can-weigh = rw isslot (weighs (rackIn slots count supply) sum i (inv .sum-is) (inv .small) place-is-in)
 
-      pub present : (a : Answer) → a ≡ steppedBy slot found f (sum - loadOf slot) supply → (sum′ : ℕ) (tally′ : Tally) →
+      stepped : (a : Answer) → a ≡ steppedBy slot found f (sum - loadOf slot) supply → (sum′ : ℕ) (tally′ : Tally) →
           sum′ ≡ sum - loadOf slot + loadOf (record { port = a .port; share = slot .share; limit = slot .limit }) →
           loadOf (record { port = a .port; share = slot .share; limit = slot .limit }) < 4294967296 →
           tally′ ≡ told tally number (a .verdict) (a .actions) (stateOf (slot .port)) (stateOf (a .port)) (a .port .power .held) →
           Kept r t s (set slots i (record { port = a .port; share = slot .share; limit = slot .limit })) count supply sum′ tally′ (place + sizeOf f) (left - 1)
       unfolding steppedBy answerAt
-      present a isa sum′ tally′ issum light istally =
+      stepped a isa sum′ tally′ issum light istally =
           let rack = rackIn slots count supply in
           let u : Slot = record { port = a .port; share = slot .share; limit = slot .limit } in
           let others-are : sum - loadOf slot ≡ others rack i = rw (isslot, inv .sum-is) (all-but-this rack i place-is-in) in
@@ -220,6 +221,16 @@ module _ {r : Rack} {t : Tally} {s : List ℕ} {slots : List Slot} {count supply
           (by-number ∙ answered-there rack tally place number (happeningIn found f) f a k (omega (arith, inside, isi)) answer ∙ rw (← isi, ← isslot, ← istally) refl)
           (length-set slots i u ∙ inv .long) (small-still slots count supply i u inside (inv .small) light)
           (issum ∙ ap (λ (x : Slot). sum - loadOf x + loadOf u) isslot ∙ sum-still slots count supply i u inside sum (inv .sum-is) place-is-in)
+
+      -- the same with the port laid out anew
+      pub present : (a : Answer) → a ≡ steppedBy slot found f (sum - loadOf slot) supply → (q : Port) → q ≡ a .port → (sum′ : ℕ) (tally′ : Tally) →
+          sum′ ≡ sum - loadOf slot + loadOf (record { port = q; share = slot .share; limit = slot .limit }) →
+          loadOf (record { port = q; share = slot .share; limit = slot .limit }) < 4294967296 →
+          tally′ ≡ told tally number (a .verdict) (a .actions) (stateOf (slot .port)) (stateOf (a .port)) (a .port .power .held) →
+          Kept r t s (set slots i (record { port = q; share = slot .share; limit = slot .limit })) count supply sum′ tally′ (place + sizeOf f) (left - 1)
+      present a isa q isq sum′ tally′ issum light istally =
+          let u : (Port → Slot) = λ p. record { port = p; share = slot .share; limit = slot .limit } in
+          rw isq (stepped a isa sum′ tally′ (subst (λ (p : Port). sum′ ≡ sum - loadOf slot + loadOf (u p)) isq issum) (subst (λ (p : Port). loadOf (u p) < 4294967296) isq light) istally)
 
   -- a set-up that is laid out as it must be
   module _ (e : isSetUp found ≡ true) (whole : setUpIn f .whole ≡ true) (started : Started) (isstarted : started ≡ setUp (setUpIn f .«set_up»)) (tally′ : Tally) (istally : tally′ ≡ setUpTold tally (started .verdict)) where

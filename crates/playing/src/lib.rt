@@ -29,6 +29,7 @@ use source::Timer;
 use tally::Sums;
 use tally::Tally;
 
+mod laying;
 mod turns;
 
 pub struct Played {
@@ -169,7 +170,7 @@ pub fn night(r: Rack, t: Tally, s: &[u8]) -> Played
                 let state = phase.state;
                 let was = t.load();
                 let a = turns::stepped(t, found, f, total - was as u64, supply);
-                let q = a.port;
+                let q = laying::port(a.port);
                 let u = Slot {
                     port: q,
                     share: t.share,
