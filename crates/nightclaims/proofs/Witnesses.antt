@@ -29,7 +29,7 @@ use Rattle.port.specs.Packets.{firstObject, meaningIn, heardAs, newPacket, othe
 use Rattle.port.specs.Calls as Port
 use Rattle.slot.specs.Load.{approves}
 use Rattle.slot.specs.Answers.{judged, settled}
-use Rattle.rack.specs.Ports.{others, powerRule}
+use Rattle.rack.specs.Ports.{at, inRack, others, powerRule}
 use Rattle.rack.specs.Steps.{event, packet, answerAt, step}
 use Rattle.setup.specs.SetUps.{goodSetting, goodSetUp, noRack, setUp}
 use Rattle.night.specs.Fields.{tagOf, lengthOf, sizeOf, isWhole, valueOf, numberAt, offerIn}
@@ -40,6 +40,7 @@ use Rattle.night.proofs.Example.{it-fits}
 use Rattle.fields.specs.declared.Ending.{Ending}
 use Rattle.fields.specs.Endings.{endingOf}
 use Rattle.fields.specs.Keeping.{goesOn}
+use Rattle.fields.specs.PortAlone.{aloneOf}
 use Rattle.tally.specs.declared.Tally.{Tally}
 use Rattle.playing.specs.declared.Played.{Played}
 use Rattle.playing.specs.Nights.{begun, answered, eventDone, setUpDone, nightIn}
@@ -117,3 +118,16 @@ module _ (t : Tally) where
       nothingDone happens leads onPacket changeOf heardAs firstObject fitOf fits asked turn enter changed standingOf isHonoured ended again heard sends
       controlOf dataOf headerOf bytesOf newOfferOf
   in-three-pieces = (refl, refl, refl, refl)
+
+  -- PortAlone (in `fields`): the port answers the attach by itself; at the Request it asks for power, and the rack is to be asked
+  pub by-itself :
+      (inRack (played first (take 34 night) .rack) 1 ≡ true)
+      × (aloneOf (at (played first (take 34 night) .rack) 0) 1 (drop 34 night) .settled ≡ true)
+      × (aloneOf (at (played first (take 44 night) .rack) 0) 1 (drop 44 night) .settled ≡ false)
+  unfolding nightIn aloneOf eventDone answered setUpDone setUp goodSetUp goodSetting goodOffer goodFrom goodObject objectAt nextOf kindOf eventOf
+      behindOf setUpIn groupIn isSupply isPort isSetting settingOf headIs placed offerIn numberAt valueOf isWhole sizeOf lengthOf tagOf wordOf step answerAt
+      settled judged approves powerRule others Port.step Steps.eventOf packetOf Reading.readOf readingTried refuseIf fieldsOf objectsOf partOf isChunked
+      messageOf meaningIn meaningOf byMeaning otherPacket newPacket goodCrcHeard byOutcome onGoodCrc onExpiry pendingId isRepeat acknowledged failed resent
+      nothingDone happens leads onPacket changeOf heardAs firstObject fitOf fits asked turn enter changed standingOf isHonoured ended again heard sends
+      controlOf dataOf headerOf bytesOf newOfferOf
+  by-itself = (refl, refl, refl)
