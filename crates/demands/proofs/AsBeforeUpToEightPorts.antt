@@ -9,19 +9,19 @@ use lib.Dec.{leb}
 use borrow.Author.Tests.{leb-true, le-leb}
 use Rattle.ground.specs.declared.Refusal.the-variants.{NotInRack}
 use Rattle.rack.specs.declared.Rack.{Rack}
-use Rattle.rack.specs.declared.RackAnswer.{RackAnswer}
 use Rattle.rack.specs.Ports.{portsIn, inRack, placeOf, others}
 use Rattle.rack.specs.Steps.{Happening, answerAt, ifInRack, refusedBy, step}
 use Rattle.rack.specs.Runs.{Happens, runBy}
 use Rattle.setup.specs.declared.SetUp.{SetUp}
 use Rattle.setup.specs.SetUps.{goodSetUp, judged, setUp}
 use Rattle.rackclaims.specs.NightDesk as Desk
-use Rattle.rackclaims.specs.History.{entryOf, historyBy}
+use Rattle.rackclaims.specs.History.{historyBy}
 use Rattle.rackclaims.proofs.Neighbours.{count-stays}
 use Rattle.demands.specs.Programs.{rackNow, history}
 use Rattle.demands.specs.Ours.{ours}
 use Rattle.demands.specs.Limits.{portsUpTo, answerUpTo, goodUpTo}
 use Rattle.demands.specs.WrongPrograms.{staysAtEightPorts}
+use Rattle.demands.proofs.AnswerAlike.{Alike, lead-alike}
 
 -- ---- a set-up
 same-judgement : (u : SetUp) → u .count ≤ 8 → u .supply ≤ 1600000 → goodUpTo 8 1600000 u ≡ goodSetUp u
@@ -50,16 +50,10 @@ answers-as-before r number h few =
     ∙ in-its-place (inRack r number) r (placeOf number) h few
 
 -- ---- and through any list of events
-runs-as-before : (r : Rack) (es : List Happens) → r .count ≤ 8 →
-    (runBy (staysAtEightPorts .step) r es ≡ runBy (ours .step) r es) × (historyBy (staysAtEightPorts .step) r es ≡ historyBy (ours .step) r es)
-unfolding runBy historyBy
-runs-as-before r [] few = (refl, refl)
-runs-as-before r (e ∷ es) few =
-    let same = answers-as-before r (e .number) (e .happening) few in
-    let rest = runs-as-before (ours .step r (e .number) (e .happening) .rack) es (subst (λ (n : ℕ). n ≤ 8) (sym (count-stays r (e .number) (e .happening))) few) in (
-      ap (λ (a : RackAnswer). runBy (staysAtEightPorts .step) (a .rack) es) same ∙ rest .0,
-      ap (λ (a : RackAnswer). entryOf e a ∷ historyBy (staysAtEightPorts .step) (a .rack) es) same ∙ ap (λ l. entryOf e (ours .step r (e .number) (e .happening)) ∷ l) (rest .1),
-    )
+alike : (r : Rack) (es : List Happens) → r .count ≤ 8 → Alike (staysAtEightPorts .step) (ours .step) r es
+alike r [] few = tt
+alike r (e ∷ es) few =
+    (answers-as-before r (e .number) (e .happening) few, alike (ours .step r (e .number) (e .happening) .rack) es (subst (λ (n : ℕ). n ≤ 8) (sym (count-stays r (e .number) (e .happening))) few))
 
 started-with : (good : Bool) (u : SetUp) → u .count ≤ 8 → judged good u .rack .count ≤ 8
 started-with true u few = few
@@ -71,7 +65,7 @@ pub nights-as-before : (u : SetUp) (es : List Happens) → u .count ≤ 8 → u 
 unfolding setUp
 nights-as-before u es few small =
     let same = ap (λ s. s .rack) (set-up-as-before u few small) in
-    let rest = runs-as-before (ours .setUp u .rack) es (started-with (goodSetUp u) u few) in (
+    let rest = lead-alike (staysAtEightPorts .step) (ours .step) (ours .setUp u .rack) es (alike (ours .setUp u .rack) es (started-with (goodSetUp u) u few)) in (
       ap (λ (r : Rack). runBy (staysAtEightPorts .step) r es) same ∙ rest .0,
       ap (λ (r : Rack). historyBy (staysAtEightPorts .step) r es) same ∙ rest .1,
     )

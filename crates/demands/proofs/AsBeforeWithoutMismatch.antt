@@ -18,16 +18,15 @@ use Rattle.port.specs.Packets.{firstObject, meaningIn, messageOf, readTo, packe
 use Rattle.port.specs.Calls as Port
 use Rattle.slot.specs.Answers.{settled}
 use Rattle.rack.specs.declared.Rack.{Rack}
-use Rattle.rack.specs.declared.RackAnswer.{RackAnswer}
 use Rattle.rack.specs.Ports.{at, inRack, placeOf, others}
 use Rattle.rack.specs.Steps.{Happening, event, packet, newOffer, ownAnswer, answerAt, turned, refusedBy, ifInRack, step}
-use Rattle.rack.specs.Runs.{Happens, runBy}
+use Rattle.rack.specs.Runs.{Happens}
 use Rattle.setup.specs.declared.SetUp.{SetUp}
-use Rattle.rackclaims.specs.History.{entryOf, historyBy}
 use Rattle.demands.specs.Programs.{rackNow, history}
 use Rattle.demands.specs.Ours.{ours}
 use Rattle.demands.specs.Fitting.{bothCompared, isRequest, judgedBy, readBy, ownBy, fittingBy, mismatchIn, setsMismatch, NoneSetsIt}
 use Rattle.demands.specs.WrongPrograms.{hearsNoMismatch}
+use Rattle.demands.proofs.AnswerAlike.{Alike, lead-alike}
 
 -- ---- one Request, one packet, one event
 fit-as-before : (request : Bool) (count r : ℕ) (o : Offer) → (request && isMismatch r) ≡ false → judgedBy bothCompared request count r o ≡ fitOf count r o
@@ -58,18 +57,11 @@ unfolding step
 answers-as-before r number h clear = in-its-place (inRack r number) r (placeOf number) h (ownBy bothCompared r (placeOf number) h) (own-as-before r (placeOf number) h clear)
 
 -- ---- and through any list of events
-runs-as-before : (r : Rack) (es : List Happens) → NoneSetsIt es →
-    (runBy (hearsNoMismatch .step) r es ≡ runBy (ours .step) r es) × (historyBy (hearsNoMismatch .step) r es ≡ historyBy (ours .step) r es)
-unfolding runBy historyBy
-runs-as-before r [] none = (refl, refl)
-runs-as-before r (e ∷ es) none =
-    let same = answers-as-before r (e .number) (e .happening) (none .0) in
-    let rest = runs-as-before (ours .step r (e .number) (e .happening) .rack) es (none .1) in (
-      ap (λ (a : RackAnswer). runBy (hearsNoMismatch .step) (a .rack) es) same ∙ rest .0,
-      ap (λ (a : RackAnswer). entryOf e a ∷ historyBy (hearsNoMismatch .step) (a .rack) es) same ∙ ap (λ l. entryOf e (ours .step r (e .number) (e .happening)) ∷ l) (rest .1),
-    )
+alike : (r : Rack) (es : List Happens) → NoneSetsIt es → Alike (hearsNoMismatch .step) (ours .step) r es
+alike r [] none = tt
+alike r (e ∷ es) none = (answers-as-before r (e .number) (e .happening) (none .0), alike (ours .step r (e .number) (e .happening) .rack) es (none .1))
 
 -- THE CLAIM: after any set-up
 pub nights-as-before : (u : SetUp) (es : List Happens) → NoneSetsIt es →
     (rackNow hearsNoMismatch u es ≡ rackNow ours u es) × (history hearsNoMismatch u es ≡ history ours u es)
-nights-as-before u es none = runs-as-before (ours .setUp u .rack) es none
+nights-as-before u es none = lead-alike (hearsNoMismatch .step) (ours .step) (ours .setUp u .rack) es (alike (ours .setUp u .rack) es none)

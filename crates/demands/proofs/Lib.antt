@@ -7,6 +7,7 @@ pub mod Witnesses
 pub mod Demand1
 pub mod Demand2
 pub mod Demand3
+pub mod AnswerAlike
 pub mod AsBeforeWithoutMismatch
 pub mod AsBeforeUpToEightPorts
 pub mod ThirtyTwoPorts

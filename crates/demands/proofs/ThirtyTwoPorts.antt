@@ -1,5 +1,5 @@
--- The largest rack, "up to 32 ports" with "a supply up to 6,400,000 units": seven objects at each port, every share and limit 200,000. It is set up, its last port answers,
--- and no port past it is there; with a port or a unit more nothing is set up. The checker computes each case. Assumes nothing.
+-- Req 08: "The new shelf has 32 ports and a supply up to 6,400,000 units." The largest rack, with seven objects at each port and every share and limit 200,000: it is set up,
+-- its last port answers, and no port past it is there; with a port or a unit more, or a unit less than the shares, nothing is set up. The checker computes each case. Assumes nothing.
 use Prim.Native.Nat.{ℕ, max}
 use mathlib.Core.Path.{_≡_, refl}
 use mathlib.Core.List.{[], _∷_}

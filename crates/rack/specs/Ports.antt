@@ -12,7 +12,7 @@ use Rattle.slot.specs.declared.Slot.{Slot}
 use Rattle.slot.specs.Load.{loadOf, approves}
 use Rattle.rack.specs.declared.Rack.{Rack}
 
--- "1 to 32 ports"
+-- "1 to 8 ports"; Req 08: "The new shelf has 32 ports"
 abbrev pub mostPorts : ℕ
 mostPorts = 32
 

@@ -1,5 +1,6 @@
--- "Refusal numbers": "A set-up is good with 1 to 32 ports, numbered from 1, a supply of 30,000 to 6,400,000 units, for each port
--- 30,000 <= share <= limit <= 200,000, shares adding to at most the supply, and a good first offer for each port."
+-- "Refusal numbers": "A set-up is good with 1 to 8 ports, numbered from 1, a supply of 30,000 to 1,600,000 units, for each port
+-- 30,000 <= share <= limit <= 200,000, shares adding to at most the supply, and a good first offer for each port." Req 08, "Thirty-two ports", raises two of these
+-- limits: "32 ports and a supply up to 6,400,000 units".
 use Prim.Native.Nat.{ℕ, zero, suc}
 use mathlib.Core.Bool.{Bool, true, false, _&&_}
 use mathlib.Core.List.{[], map}
