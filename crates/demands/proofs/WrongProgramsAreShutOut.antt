@@ -53,7 +53,7 @@ use Rattle.rack.specs.Ports.{at, total, others}
 use Rattle.rack.specs.Steps.{Happening, event, packet, callOf, turned, answerAt, step}
 use Rattle.rack.specs.Runs.{Happens, runBy}
 use Rattle.setup.specs.declared.SetUp.{SetUp}
-use Rattle.setup.specs.SetUps.{setting, goodSetting, goodSetUp, setUp}
+use Rattle.setup.specs.SetUps.{setting, goodSetting, goodSetUp, rackOf, setUp}
 use Rattle.rackclaims.specs.NightDesk as Desk
 use Rattle.rackclaims.specs.Wire.{isOffer, isAccept}
 use Rattle.rackclaims.specs.History.{historyBy, heldBy}
@@ -330,23 +330,45 @@ changes-the-buffer-of-a-refused-write d =
 pub refuses-every-set-up : Demand1 Wrong.refusesEverySetUp → ⊥
 refuses-every-set-up d = true-not-false (sym (ap isFine (d .good-is-set-up u (cases .good) .0)))
 
--- ---- other limits: nine ports are good, and a port or a unit over the most is not
-pub record Judged : Type 0 where
-  pub nine-ports : goodSetUp (Large.alike 9 30000 6400000) ≡ true
-  pub port-over : goodSetUp (Large.alike 33 30000 6400000) ≡ false
-  pub unit-over : goodSetUp (Large.alike 32 30000 6400001) ≡ false
+-- ---- other limits, each by the sentence about a set-up that it breaks, and by the one about events: nine ports are good, and a port or a unit over the most is not; a
+-- rack of nine has a port 9, and one of 33 no port 33
+abbrev nine : SetUp
+nine = Large.alike 9 30000 6400000
 
-judgements : Judged
-unfolding objectAt goodObject goodFrom goodOffer goodSetting goodSetUp
-judgements = record { nine-ports = refl; port-over = refl; unit-over = refl }
+abbrev portOver : SetUp
+portOver = Large.alike 33 30000 6400000
+
+abbrev unitOver : SetUp
+unitOver = Large.alike 32 30000 6400001
+
+-- what a program answers to an attach at the port of a number, in the rack of a set-up
+abbrev attach : Program → SetUp → ℕ → Verdict
+attach P set-up number = P .step (rackOf set-up) number (event Event.Attach) .verdict
+
+pub record Limits : Type 0 where
+  pub nine-ports : goodSetUp nine ≡ true
+  pub port-over : goodSetUp portOver ≡ false
+  pub unit-over : goodSetUp unitOver ≡ false
+  pub port-9 : (isFine (attach Wrong.staysAtEightPorts nine 9) ≡ false) × (isFine (verdictIn (rackOf nine) 9 (event Event.Attach)) ≡ true)
+  pub port-33 : (isFine (attach Wrong.hasThirtyThreePorts portOver 33) ≡ true) × (isFine (verdictIn (rackOf portOver) 33 (event Event.Attach)) ≡ false)
+
+limits : Limits
+unfolding objectAt goodObject goodFrom goodOffer dataOf standingOf leads changeOf enter turn happens eventOf Port.step settled goodSetting goodSetUp
+limits = record { nine-ports = refl; port-over = refl; unit-over = refl; port-9 = (refl, refl); port-33 = (refl, refl) }
 
 pub stays-at-eight-ports : Demand1 Wrong.staysAtEightPorts → ⊥
-stays-at-eight-ports d = true-not-false (sym (ap isFine (d .good-is-set-up (Large.alike 9 30000 6400000) (judgements .nine-ports) .0)))
+stays-at-eight-ports d = true-not-false (sym (ap isFine (d .good-is-set-up nine (limits .nine-ports) .0)))
+
+pub stays-at-eight-ports-2 : Demand1 Wrong.staysAtEightPorts → ⊥
+stays-at-eight-ports-2 d = true-not-false (sym (limits .port-9 .1) ∙ sym (ap isFine (d .every-event-is-answered (rackOf nine) 9 (event Event.Attach))) ∙ limits .port-9 .0)
 
 pub has-thirty-three-ports : Demand1 Wrong.hasThirtyThreePorts → ⊥
 unfolding objectAt goodObject goodFrom goodOffer goodSetting
-has-thirty-three-ports d = true-not-false (ap isFine (d .bad-is-ten (Large.alike 33 30000 6400000) (judgements .port-over) .0))
+has-thirty-three-ports d = true-not-false (ap isFine (d .bad-is-ten portOver (limits .port-over) .0))
+
+pub has-thirty-three-ports-2 : Demand1 Wrong.hasThirtyThreePorts → ⊥
+has-thirty-three-ports-2 d = true-not-false (sym (limits .port-33 .0) ∙ ap isFine (d .every-event-is-answered (rackOf portOver) 33 (event Event.Attach)) ∙ limits .port-33 .1)
 
 pub takes-one-unit-more : Demand1 Wrong.takesOneUnitMore → ⊥
 unfolding objectAt goodObject goodFrom goodOffer goodSetting
-takes-one-unit-more d = true-not-false (ap isFine (d .bad-is-ten (Large.alike 32 30000 6400001) (judgements .unit-over) .0))
+takes-one-unit-more d = true-not-false (ap isFine (d .bad-is-ten unitOver (limits .unit-over) .0))
