@@ -7,6 +7,7 @@ repository or with one of Rust's, the lemma gets `_lem` after it. Names that beg
 messages, which are named as the source documents name them. Functions of src/, strings, inputs and outputs keep their names.
 """
 import glob
+import os
 import re
 import sys
 
@@ -74,6 +75,14 @@ def turned_antt(text, new):
     return "\n".join(out)
 
 
+def borrowed(text):
+    """What a file has from a library under the same spelling."""
+    own = set(os.listdir("crates"))
+    uses = re.findall(r"^\s*use ([^\s{;]+)\.\{([^}]*)\}", text, re.M)
+    lines = [names for module, names in uses if not (module.startswith("Rattle.") and module.split(".")[1] in own)]
+    return {name.strip().split(" as ")[0] for names in lines for name in names.split(",")}
+
+
 def turned(text, new):
     return "".join(new.get(w, w) for w in SPLIT.split(text))
 
@@ -110,7 +119,8 @@ def main():
     for path in paths:
         text = open(path, encoding="utf-8").read()
         how = turned_rt if path.endswith(".rt") else turned_edit if path.endswith(".edit") else turned_antt
-        after = how(text, new)
+        kept = borrowed(text)
+        after = how(text, {a: b for a, b in new.items() if a not in kept})
         if after != text:
             open(path, "w", encoding="utf-8").write(after)
 

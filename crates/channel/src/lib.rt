@@ -1,6 +1,8 @@
 // One channel of messages to the receiver: the MessageID counter, the stored MessageID, the pending
 // message, and the protocol rules over them. It promises each rule as the paper says it, for every
 // channel, and rests on the message's header.
+#![tactic(auto)]
+
 ghost use Rattle.std.specs.Prelude.{◌≡◌};
 ghost use Rattle.channel.specs.Channel.{is_pending, pending_id, is_repeat, next_id, once_more, counter_after, ended, again, heard, fresh, sends};
 ghost use Rattle.channel.specs.Outcomes.{outcome_of, on_good_crc, on_expiry};

@@ -6,7 +6,7 @@ use mathlib.Core.Bool.{Bool, true, false, not, ◌&&◌}
 use mathlib.Core.List.{List}
 use lib.Dec.{T, eqb}
 use lib.ListN.{length, drop, set}
-use borrow.Author.Tests.{eqb-true, not_true}
+use borrow.Author.Tests.{eqb-true, not-true}
 use Rattle.ground.proofs.Rows.{first, second}
 use Rattle.port.specs.declared.Port.{Port}
 use Rattle.slot.specs.declared.Slot.{Slot}
@@ -47,7 +47,7 @@ module _ (r : Rack) (number : ℕ) (here : in_rack r number ≡ true) where
   an_event found n size h e =
       let asked : Bool = has_asked (at r (place_of number)).port (own_answer r (place_of number) h).port in
       let this : n ≡ number = eqb-true n number (first (eqb n number) (not asked) e) in
-      let none : asked ≡ false = not_true asked (second (eqb n number) (not asked) e) in
+      let none : asked ≡ false = not-true asked (second (eqb n number) (not asked) e) in
       ap (λ (k : ℕ). event_field found (step r k h) size) this ∙ ap (λ a. event_field found a size) (not_asking h none)
 
   by_found : (found : Found) (l : List ℕ) → (alone_by found (at r (place_of number)) number l).settled ≡ true → field_by found r l ≡ field_with found r (place_of number) (alone_by found (at r (place_of number)) number l)

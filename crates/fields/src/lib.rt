@@ -1,6 +1,8 @@
 // A night over a rack, a field at a time: what the next field comes to, why the reading stopped, and what
 // is kept of a piece for the next one. It promises every answer for all bytes, by the definitions of `night`,
 // `rack` and `setup`, and rests on those.
+#![tactic(auto)]
+
 ghost use Rattle.std.specs.Prelude.{◌≡◌, min};
 ghost use Rattle.fields.specs.Answers.{rack_after, unread, event_field, started_field, set_up_field, field_of};
 ghost use Rattle.fields.specs.Endings.{ending_by, ending_of};

@@ -3,7 +3,7 @@ use mathlib.Core.Path.{◌≡◌, refl, ap}
 use mathlib.Core.Bool.{Bool, true, false, not, ◌&&◌}
 use mathlib.Core.List.{List, [], ◌∷◌}
 use lib.Dec.{T}
-use borrow.Author.Tests.{not_false}
+use borrow.Author.Tests.{not-false}
 use Rattle.ground.specs.declared.Refusal.{Refusal}
 use Rattle.ground.specs.declared.Verdict.{Verdict}
 use Rattle.ground.specs.declared.Verdict.TheVariants.{Fine, Refused}
@@ -62,7 +62,7 @@ spare false b h = refl
 
 -- so, of something that must not be missing
 pub has : (a b : Bool) → (a && not b) ≡ false → a ≡ true → b ≡ true
-has a b e a-true = not_false b (spared a (not b) e a-true)
+has a b e a-true = not-false b (spared a (not b) e a-true)
 
 pub hold : (a b : Bool) → (a ≡ true → b ≡ true) → (a && not b) ≡ false
 hold a b h = spare a (not b) (λ a-true. ap not (h a-true))

@@ -1,6 +1,8 @@
 // The ground that every layer stands on: the paper's refusals with their numbers, and the verdict
 // of a row of tests. It promises the number of each refusal and the order of the tests, and rests on
 // nothing. Its `specs/` and `proofs/` hold the few notions and laws that all layers share.
+#![tactic(auto)]
+
 ghost use Rattle.std.specs.Prelude.{◌≡◌, max};
 ghost use Rattle.ground.specs.Refusals.{number_of, refuse_if};
 

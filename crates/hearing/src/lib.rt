@@ -1,5 +1,7 @@
 // Where a new packet leads each Source state. It promises the paper's state list, for every state and every
 // kind of packet, and rests on the states.
+#![tactic(auto)]
+
 ghost use Rattle.std.specs.Prelude.{◌≡◌};
 ghost use Rattle.hearing.specs.Packets.{on_packet};
 

@@ -1,5 +1,7 @@
 // What a message means to us: its kind from the header, and from kind and type the paper's meaning,
 // by a table of 96 entries. It promises every entry, and "unsupported" for whatever is not there.
+#![tactic(auto)]
+
 ghost use Rattle.std.specs.Prelude.{◌≡◌, ◌<◌, ◌+◌};
 ghost use Rattle.meaning.specs.Meaning.{kind_of, first_of, entry_of, meaning_of};
 

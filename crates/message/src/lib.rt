@@ -1,5 +1,7 @@
 // A message: its fields, the sixteen bits of its header (000, Table 6.1) and its bytes. It promises
 // header and fields both ways, for every header and all fields, and rests on the ground's laws.
+#![tactic(auto)]
+
 ghost use Rattle.std.specs.Prelude.{◌≡◌, ◌+◌, ◌*◌, ◌<◌, get_or};
 ghost use Rattle.message.specs.Header.{fields_of, objects_of, header_of, bit_of};
 ghost use Rattle.message.specs.Bytes.{word_of, is_chunked};

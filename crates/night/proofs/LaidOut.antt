@@ -3,7 +3,7 @@ use Prim.Native.Nat.{ℕ, zero, suc, ◌+◌, ◌-◌, ◌*◌, ◌/◌, ◌%◌
 use native.Mathlib.Nat.{div-add-mod'}
 use native.Mathlib.Omega.{arith}
 use mathlib.Core.Path.{◌≡◌, refl, ap, ◌∙◌}
-use mathlib.Core.Bool.{true, false, and_false}
+use mathlib.Core.Bool.{true, false, and-false}
 use mathlib.Core.List.{List, [], ◌∷◌, ◌++◌}
 use lib.Dec.{eqb}
 use lib.ListN.{length, drop, length-append}
@@ -126,7 +126,7 @@ module _ (p : PortGroup) where
 
     pub no_supply : is_supply (field_bytes 17 (port_value p) ++ rest) ≡ false
     unfolding is_supply head_is
-    no_supply = rw (tag_back 17 (port_value p) rest) (and_false (eqb (length (field_bytes 17 (port_value p) ++ rest)) 7))
+    no_supply = rw (tag_back 17 (port_value p) rest) (and-false (eqb (length (field_bytes 17 (port_value p) ++ rest)) 7))
 
 -- ---- the supply
 pub is_supply_lem : (supply : ℕ) → is_supply (field_bytes 18 (four_bytes supply)) ≡ true

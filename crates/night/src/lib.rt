@@ -1,6 +1,8 @@
 // A night's file, a field at a time: what the next field says, and its parts. It promises every answer
 // for all bytes, by the definitions of docs/NIGHT.md, and rests on the port's events and on what a set-up
 // is.
+#![tactic(auto)]
+
 ghost use Rattle.std.specs.Prelude.{◌≡◌, ◌/◌, ◌<◌, min, drop};
 ghost use Rattle.night.specs.Fields.{length_of, size_of, value_of, number_at, offer_in};
 ghost use Rattle.night.specs.Events.{event_of, if_fits, kind_of, next_of, offer_of, Behind};

@@ -1,6 +1,8 @@
 // What a source offers and what may be asked of it: the objects of an offer, a good offer, and
 // whether a Request fits. It promises all of it by the paper's sentences, and rests on the message's
 // notion of a field of bits.
+#![tactic(auto)]
+
 ghost use Rattle.std.specs.Prelude.{◌≡◌, take, ◌≤◌};
 ghost use Rattle.offers.specs.Objects.{voltage_of, current_of, position_of, is_mismatch, operating_of, maximum_of};
 ghost use Rattle.offers.specs.Offers.{has, object_at, good_object, good_from, good_offer};

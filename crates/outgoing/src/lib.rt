@@ -1,5 +1,7 @@
 // A whole message of ours as it goes out, byte by byte, in a place of fixed size that a port can keep. It
 // promises every byte, and rests on the headers that we send.
+#![tactic(auto)]
+
 ghost use Rattle.std.specs.Prelude.{◌≡◌, ◌+◌, ◌/◌, ◌%◌, ◌≤◌, set};
 ghost use Rattle.outgoing.specs.Packets.{control_of, data_of};
 

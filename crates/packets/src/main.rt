@@ -1,5 +1,7 @@
 // Reads packets, a line each, from standard input, and writes for each what reading it gives and what
 // writing it back gives. docs/PACKETS.md has the lines.
+#![tactic(auto)]
+
 mod answer;
 mod line;
 mod words;

@@ -1,6 +1,8 @@
 // A port's step in two: what comes of an event is decided while the port is only read, and then done at
 // once. Long runs are fast so. It promises the answer by definitions that are shown equal to the port's
 // step with the power answer in it, and rests on the port and its place in the rack.
+#![tactic(auto)]
+
 ghost use Rattle.std.specs.Prelude.{◌≡◌};
 ghost use Rattle.plan.specs.Plans.{met_event, met_packet, met_offer, done_of};
 

@@ -1,6 +1,8 @@
 // A night played over a rack: the loop that answers a million events. It keeps the ports in a local
 // array and the sum of their loads in a number, and promises what stepping the rack field by field
 // answers. It rests on the rack's step, by way of `plan`, and on the reading of a night's file.
+#![tactic(auto)]
+
 ghost use Rattle.std.specs.Prelude.{◌≡◌, ◌&&◌, ◌+◌, ◌-◌, ◌*◌, ◌≤◌, min, leb, length};
 ghost use Rattle.ground.specs.declared.Refusal.TheVariants.{NotInRack};
 ghost use Rattle.ground.specs.declared.Verdict.TheVariants.{Refused};

@@ -1,6 +1,8 @@
 // The USB PD source for one port. A port is stepped by value: each call takes the memory and hands back
 // the next one, with the actions, or a refusal and the very same port. It promises each answer by the
 // paper's rules, for every port, and rests on the layers for offers, messages, channel, power and states.
+#![tactic(auto)]
+
 ghost use Rattle.std.specs.Prelude.{◌≡◌};
 ghost use Rattle.port.specs.Memory.{detached_port};
 ghost use Rattle.port.specs.Steps.{event_of, new_offer_of};

@@ -1,5 +1,7 @@
 // The power that a port has promised: the accepted request, the contract, and what is held for them.
 // It promises what each change does to the three, for every port, and rests on what an offer is.
+#![tactic(auto)]
+
 ghost use Rattle.std.specs.Prelude.{◌≡◌};
 ghost use Rattle.power.specs.Power.{none, judges, accepts, comes_into_force, gives_up, changed, by_offer, standing_of};
 

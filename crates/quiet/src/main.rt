@@ -1,5 +1,7 @@
 // Plays a night from standard input through a rack, and writes what it comes to in counts, and a table. For
 // long nights: docs/NIGHT.md has the file, docs/REPLAY.md what is written.
+#![tactic(auto)]
+
 mod counts;
 mod ending;
 mod fill;

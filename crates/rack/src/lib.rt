@@ -1,6 +1,8 @@
 // Ports that share one supply. A rack is stepped by value: each call takes the rack, the number of a
 // port and what comes to it, and hands back the next rack with the port's actions, or a refusal and the
 // very same rack. It promises each answer by the port's rules and the power rule, for every rack.
+#![tactic(auto)]
+
 ghost use Rattle.std.specs.Prelude.{◌≡◌, ◌<◌};
 ghost use Rattle.rack.specs.Ports.{most_ports, ports_in, in_rack, at, loads, others, put};
 ghost use Rattle.rack.specs.Steps.{event, packet, new_offer, turned, refused_by, step};

@@ -1,7 +1,7 @@
 -- An Accept on the wire in answer to a Request is the port's Accept: it goes out exactly when the Request is accepted. Told from the bytes alone. Assumes nothing.
 use Prim.Native.Nat.{ℕ, ◌%◌, ◌<◌}
 use mathlib.Core.Path.{◌≡◌, refl, sym, ap, subst, ◌∙◌}
-use mathlib.Core.Bool.{Bool, true, false, not, cond, ◌&&◌, ◌||◌, and_true}
+use mathlib.Core.Bool.{Bool, true, false, not, cond, ◌&&◌, ◌||◌, and-true}
 use mathlib.Core.List.{List, [], ◌∷◌}
 use lib.Dec.{T, eqb}
 use Rattle.ground.specs.declared.Refusal.TheVariants.{NotAwaited}
@@ -63,7 +63,7 @@ nothing_is_none = refl
 pub control_by_type : (type id : ℕ) → is_accept (on_wire (control_of type id)) ≡ eqb (type % 32) Types.Accept
 unfolding is_accept control_of fields_of
 control_by_type type id =
-    rw (word_of_two (header_of (our_fields type id) 0) [], plain_packed type id 0, type_packed (our_fields type id) 0, objects_packed (our_fields type id) 0) (and_true (eqb (type % 32) Types.Accept))
+    rw (word_of_two (header_of (our_fields type id) 0) [], plain_packed type id 0, type_packed (our_fields type id) 0, objects_packed (our_fields type id) 0) (and-true (eqb (type % 32) Types.Accept))
 
 offer_is_none : (id count : ℕ) (objects : List ℕ) → is_accept (on_wire (data_of Types.SourceCapabilities id objects count)) ≡ false
 unfolding is_accept

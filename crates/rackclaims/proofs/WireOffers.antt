@@ -3,7 +3,7 @@
 use Prim.Native.Nat.{ℕ, zero, suc, ◌+◌, ◌-◌, ◌*◌, ◌/◌, ◌%◌, ◌<◌, ◌≤◌}
 use native.Mathlib.Omega.{arith}
 use mathlib.Core.Path.{◌≡◌, refl, sym, ap, ◌∙◌}
-use mathlib.Core.Bool.{true, false, and_false}
+use mathlib.Core.Bool.{true, false, and-false}
 use mathlib.Core.List.{List, [], ◌++◌}
 use lib.Dec.{eqb}
 use lib.ListN.{take, drop, get_or}
@@ -43,7 +43,7 @@ nothing_sent y = rw no_offer_lem
 -- a control message's header names no objects
 pub control_no_offer : (type id : ℕ) → is_offer (on_wire (control_of type id)) ≡ false
 unfolding is_offer control_of fields_of
-control_no_offer type id = rw (word_of_two (header_of (our_fields type id) 0) [], plain_packed type id 0, objects_packed (our_fields type id) 0, and_false)
+control_no_offer type id = rw (word_of_two (header_of (our_fields type id) 0) [], plain_packed type id 0, objects_packed (our_fields type id) 0, and-false)
 
 pub control_sent : (type id : ℕ) (y : List ℕ) → last_offer (control_of type id) y ≡ y
 control_sent type id y = rw (control_no_offer type id)

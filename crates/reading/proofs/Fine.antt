@@ -4,7 +4,7 @@ use mathlib.Core.Path.{◌≡◌, refl, ap}
 use mathlib.Core.Bool.{true, not}
 use mathlib.Core.List.{List}
 use lib.ListN.{length}
-use borrow.Author.Tests.{ltb-false, eqb-true, not_false, le-ltb, eq-eqb}
+use borrow.Author.Tests.{ltb-false, eqb-true, not-false, le-ltb, eq-eqb}
 use Rattle.ground.specs.declared.Verdict.TheVariants.{Fine}
 use Rattle.ground.proofs.Rows.{passed, pass, spared, spare, has, hold}
 use Rattle.message.specs.Header.{objects_of}
@@ -32,7 +32,7 @@ readable s e =
       most = ltb-false _ _ long.0;
       four = λ x. ltb-false _ _ (spared _ _ under.0 x);
       chunked = has _ _ unchunked.0;
-      even = eqb-true _ _ (not_false _ uneven.0);
+      even = eqb-true _ _ (not-false _ uneven.0);
     }
 
 pub fine : (s : List ℕ) → Readable s → reading_tried s ≡ Fine

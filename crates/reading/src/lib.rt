@@ -1,5 +1,7 @@
 // Reading a packet: any bytes of any length give the fields, or a refusal by the paper's number; and
 // the object bytes as that part of the packet itself. It rests on the message's bytes.
+#![tactic(auto)]
+
 ghost use Rattle.std.specs.Prelude.{◌≡◌};
 ghost use Rattle.ground.specs.declared.Refusal.TheVariants.{TooShort, TooLong, WrongLength, NotChunked};
 ghost use Rattle.ground.specs.declared.Verdict.TheVariants.{Fine};

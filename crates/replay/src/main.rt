@@ -1,5 +1,7 @@
 // Plays a night from standard input through a rack, and writes a line for each event and a table at the
 // end. docs/NIGHT.md has the file, docs/REPLAY.md what is written.
+#![tactic(auto)]
+
 mod answer;
 mod ending;
 mod fill;

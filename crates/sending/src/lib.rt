@@ -1,5 +1,7 @@
 // What we send ourselves: the fields and header bytes of our messages, and the GoodCRC for a packet.
 // It promises the bytes for all inputs, and rests on the message's header.
+#![tactic(auto)]
+
 ghost use Rattle.std.specs.Prelude.{◌≡◌, []};
 ghost use Rattle.message.specs.Bytes.{two_bytes, bytes_of};
 ghost use Rattle.message.specs.Header.{header_of};

@@ -1,5 +1,7 @@
 // Setting up a rack: which set-ups are good, and the rack that a good one gives. It promises the paper's
 // rule for every set-up, and that nothing is set up by a bad one; it rests on the rack.
+#![tactic(auto)]
+
 ghost use Rattle.std.specs.Prelude.{◌≡◌, map};
 ghost use Rattle.setup.specs.SetUps.{good_setting, good_set_up, slot_of, no_rack, accepted_set_up};
 

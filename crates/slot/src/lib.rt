@@ -1,6 +1,8 @@
 // A port's place in the rack: the port with its share and its limit, what it takes of the supply, and
 // the power answer within an event. It promises the power rule, for whatever the other ports take, and
 // rests on the port.
+#![tactic(auto)]
+
 ghost use Rattle.std.specs.Prelude.{◌≡◌, ◌+◌, leb};
 ghost use Rattle.slot.specs.Load.{load_of, approves};
 ghost use Rattle.slot.specs.Answers.{has_asked, answer_of, joined, settled};

@@ -2,6 +2,8 @@
 // and the names of all that leads from one to another. It promises the paper's state list, for every
 // state, and holds no memory: the port gives the facts that a state asks for. Where the states lead,
 // `stimuli` and `hearing` say.
+#![tactic(auto)]
+
 ghost use Rattle.std.specs.Prelude.{◌≡◌};
 ghost use Rattle.source.specs.declared.State.{State};
 ghost use Rattle.source.specs.States.{code_of, same, listens, awaits_reply, running, stopped};

@@ -1,5 +1,7 @@
 // Steps a port, and a rack of ports, through lines of events from standard input, and writes for each
 // the answer and the port's memory. docs/STEPS.md has the lines.
+#![tactic(auto)]
+
 mod answer;
 mod bench;
 mod command;

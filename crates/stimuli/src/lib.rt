@@ -1,5 +1,7 @@
 // Where each stimulus leads each Source state, new packets aside. It promises the paper's state list, for
 // every state and every stimulus, and rests on the states.
+#![tactic(auto)]
+
 ghost use Rattle.std.specs.Prelude.{◌≡◌};
 ghost use Rattle.stimuli.specs.Leads.{leads};
 

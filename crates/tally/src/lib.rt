@@ -1,6 +1,8 @@
 // What came of a night: how many answers there were of each sort, and a checksum over all of them. It
 // promises every count and the checksum by docs/REPLAY.md, for every answer, and rests on the port's
 // answers.
+#![tactic(auto)]
+
 ghost use Rattle.std.specs.Prelude.{◌≡◌, ◌<◌};
 ghost use Rattle.source.specs.declared.State.{State};
 ghost use Rattle.tally.specs.Checksum.{mixed, verdict_number, timer_number, supply_number, crc_number, bit, mixed_packet, checked};

@@ -1,6 +1,8 @@
 // Lines of text for people, put together in a lent buffer: words, bytes in hexadecimal, numbers. A
 // piece that has no room is left out whole. Each call promises the place after it and every byte of the
 // buffer.
+#![tactic(auto)]
+
 ghost use Rattle.std.specs.Prelude.{◌<◌, ◌≡◌, [], ◌∷◌};
 ghost use Rattle.text.specs.Text.{line, typed, glyph_of, hex_of, number_of, decimal_of, typed_bytes};
 

@@ -6,7 +6,7 @@ use mathlib.Core.Path.{◌≡◌, refl, ap}
 use mathlib.Core.Bool.{not}
 use mathlib.Core.List.{List}
 use lib.ListN.{length}
-use borrow.Author.Tests.{ltb-false, lt-ltb, le-ltb, eqb-true, eq-eqb, ne_eqb, not_false}
+use borrow.Author.Tests.{ltb-false, lt-ltb, le-ltb, eqb-true, eq-eqb, ne_eqb, not-false}
 use Rattle.ground.specs.declared.Refusal.TheVariants.{OutOfRange}
 use Rattle.ground.specs.declared.Verdict.TheVariants.{Fine, Refused}
 use Rattle.ground.proofs.Rows.{passed, pass, refuse, here, later, neither, nor, none, spared, spare}
@@ -31,7 +31,7 @@ writable f o size place e =
     let revision-in = neither _ _ data-in.1 in
     let whole_in = neither _ _ revision-in.1 in
     let few : length o ≤ 28 = ltb-false _ _ (neither _ _ whole_in.1).0 in
-    let whole : length o % 4 ≡ 0 = eqb-true _ _ (not_false _ whole_in.0) in
+    let whole : length o % 4 ≡ 0 = eqb-true _ _ (not-false _ whole_in.0) in
     let revision : f.revision ≤ 2 = ltb-false _ _ revision-in.0 in
     record {
       sound =
@@ -46,7 +46,7 @@ writable f o size place e =
                 };
             whole = whole;
             few = few;
-            chunked = λ x. not_false _ (neither _ _ (neither _ _ (spared _ _ chunk.0 x)).1).0;
+            chunked = λ x. not-false _ (neither _ _ (neither _ _ (spared _ _ chunk.0 x)).1).0;
           };
       revision = le_lt revision;
       within = ltb-false _ _ IsPlace-in.0;

@@ -1,5 +1,7 @@
 // Writing a message into a lent buffer from a place on, or refusing by the paper's number with no
 // byte changed. It promises the result and every byte of the buffer, and rests on the message's bytes.
+#![tactic(auto)]
+
 ghost use Rattle.std.specs.Prelude.{◌+◌, ◌-◌, ◌≤◌, ◌≡◌, ◌++◌, length};
 ghost use Rattle.ground.specs.declared.Refusal.TheVariants.{OutOfRange, NotChunked, NoRoom};
 ghost use Rattle.ground.specs.declared.Verdict.TheVariants.{Fine};

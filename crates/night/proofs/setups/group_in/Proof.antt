@@ -1,6 +1,6 @@
 -- `night::setups::group_in` meets its contract: what the whole value says is what the rest of it says of the set-up so far. Assumes nothing.
 use borrow.Author.Rules.{rules}
-use borrow.Author.Tests.{not_true, not_false}
+use borrow.Author.Tests.{not-true, not-false}
 use Prim.Native.Nat.{◌≤◌}
 use native.Mathlib.Omega.{arith}
 use mathlib.Core.Path.{◌≡◌, sym, ◌∙◌}
@@ -38,7 +38,7 @@ group_in_spec =
     (λ c.
     let s = c.before.before.before.before.before.before.before.before.before.before.args.s.now in
     let q = c.before.before.before.before.before.before.before.loop in
-    c.not-laid.ensures ∙ at_neither s q.u q.at q.left q.invariant.1 c.before.before.before.before.before.before.loop-test.true _ c.before.before.before.before.before.from.ensures (sym c.before.before.before.before.is_supply_lem.ensures ∙ c.before.before.before.if1.false) (sym c.before.before.is_port_lem.ensures ∙ not_true _ c.before.if2.true))
+    c.not-laid.ensures ∙ at_neither s q.u q.at q.left q.invariant.1 c.before.before.before.before.before.before.loop-test.true _ c.before.before.before.before.before.from.ensures (sym c.before.before.before.before.is_supply_lem.ensures ∙ c.before.before.before.if1.false) (sym c.before.before.is_port_lem.ensures ∙ not-true _ c.before.if2.true))
     (λ c κs. search rules)
     (λ c κs. search rules)
     (λ c κs. search rules)
@@ -46,12 +46,12 @@ group_in_spec =
     (λ c.
     let s = c.before.before.before.before.before.before.before.before.before.before.before.before.before.args.s.now in
     let q = c.before.before.before.before.before.before.before.before.before.before.loop in
-    omega (arith, within s q.at _ c.before.before.before.before.before.before.before.before.from.ensures q.invariant.0 (sym c.before.before.before.before.before.is_port_lem.ensures ∙ not_false _ c.before.before.before.before.if2.false), c.size.ensures))
+    omega (arith, within s q.at _ c.before.before.before.before.before.before.before.before.from.ensures q.invariant.0 (sym c.before.before.before.before.before.is_port_lem.ensures ∙ not-false _ c.before.before.before.before.if2.false), c.size.ensures))
     (λ c. search rules)
     (λ c.
     let s = c.before.before.before.before.before.before.before.before.before.before.before.before.before.args.s.now in
     let q = c.before.before.before.before.before.before.before.before.before.before.loop in
-    let port = sym c.before.before.before.before.before.is_port_lem.ensures ∙ not_false _ c.before.before.before.before.if2.false in
+    let port = sym c.before.before.before.before.before.is_port_lem.ensures ∙ not-false _ c.before.before.before.before.if2.false in
     rw (c.size.ensures, c.before.placed.ensures, c.before.before.setting-of.ensures, c.before.before.before.value.ensures)
     (within s q.at _ c.before.before.before.before.before.before.before.before.from.ensures q.invariant.0 port, at_port_lem s q.u q.at q.left q.invariant.1 c.before.before.before.before.before.before.before.before.before.loop-test.true _ c.before.before.before.before.before.before.before.before.from.ensures (sym c.before.before.before.before.before.before.before.is_supply_lem.ensures ∙ c.before.before.before.before.before.before.if1.false) port))
     (λ c κs. search rules)

@@ -1,6 +1,6 @@
 -- `replay::lines::run` meets its contract: what is left of the piece, gone through from here, is the whole. The measure: the turns that are left.
 use Rattle.std.proofs.Common.{◌≡◌, ◌<◌, length, ◌∙◌, arith, rules}
-use borrow.Author.Tests.{not_true, not_false}
+use borrow.Author.Tests.{not-true, not-false}
 use Rattle.ground.proofs.Parts.{rest}
 use Rattle.fields.proofs.Through.{Going, begins, used_up, reaches, stops, goes_on}
 use Rattle.fields.proofs.PortAlone.{reaches_alone, goes_on_alone}
@@ -40,11 +40,11 @@ run_spec =
     (λ c κs. search rules)
     (λ c κs. search rules)
     (λ c. c.before.before.before.before.before.before.before.before.before.before.before.before.before.loop.invariant.0)
-    (λ c. rw (c.reached.ensures.0, c.reached.ensures.1) (stops c.before.before.before.before.before.before.before.before.before.before.before.before.before.loop.invariant.2 _ (rest c.before.before.before.before.before.before.before.before.before.before.before.before.before.loop.at c.before.before.before.before.before.before.before.before.before.before.before.before.before.before.before.before.args.s.now) c.before.before.before.first.result c.before.before.before.first.ensures (not_true _ c.before.if2.true)))
+    (λ c. rw (c.reached.ensures.0, c.reached.ensures.1) (stops c.before.before.before.before.before.before.before.before.before.before.before.before.before.loop.invariant.2 _ (rest c.before.before.before.before.before.before.before.before.before.before.before.before.before.loop.at c.before.before.before.before.before.before.before.before.before.before.before.before.before.before.before.before.args.s.now) c.before.before.before.first.result c.before.before.before.first.ensures (not-true _ c.before.if2.true)))
     (λ c. omega (arith, c.before.before.before.before.before.before.before.before.before.before.before.before.before.loop.invariant.1, reaches c.before.before.before.before.before.before.before.before.before.before.before.before.before.loop.invariant.2 _ (rest c.before.before.before.before.before.before.before.before.before.before.before.before.before.loop.at c.before.before.before.before.before.before.before.before.before.before.before.before.before.before.before.before.args.s.now) c.before.before.before.first.result c.before.before.before.first.ensures))
     (λ c κs. search rules)
     (λ c. let h : 0 < c.before.before.before.before.before.before.before.before.before.before.before.before.before.before.before.before.before.before.loop.left = c.before.before.before.before.before.before.before.before.before.before.before.before.before.before.before.before.before.loop-test.true in omega arith)
-    (λ c. (c.before.before.out2.given ∙ c.before.before.before.before.before.before.before.before.before.before.before.before.before.before.before.before.before.before.loop.invariant.0, c.before.before.before.before.before.before.before.before.before.before.before.before.before.before.before.before.before.before.loop.invariant.1, goes_on c.before.before.before.before.before.before.before.before.before.before.before.before.before.before.before.before.before.before.loop.invariant.2 _ (rest c.before.before.before.before.before.before.before.before.before.before.before.before.before.before.before.before.before.before.loop.at c.before.before.before.before.before.before.before.before.before.before.before.before.before.before.before.before.before.before.before.before.before.args.s.now) c.before.before.before.before.before.before.before.before.first.result c.before.before.before.before.before.before.before.before.first.ensures c.before.before.before.before.before.before.before.before.before.before.before.before.before.before.before.before.before.loop-test.true (not_false _ c.before.before.before.before.before.before.if2.false)))
+    (λ c. (c.before.before.out2.given ∙ c.before.before.before.before.before.before.before.before.before.before.before.before.before.before.before.before.before.before.loop.invariant.0, c.before.before.before.before.before.before.before.before.before.before.before.before.before.before.before.before.before.before.loop.invariant.1, goes_on c.before.before.before.before.before.before.before.before.before.before.before.before.before.before.before.before.before.before.loop.invariant.2 _ (rest c.before.before.before.before.before.before.before.before.before.before.before.before.before.before.before.before.before.before.loop.at c.before.before.before.before.before.before.before.before.before.before.before.before.before.before.before.before.before.before.before.before.before.args.s.now) c.before.before.before.before.before.before.before.before.first.result c.before.before.before.before.before.before.before.before.first.ensures c.before.before.before.before.before.before.before.before.before.before.before.before.before.before.before.before.before.loop-test.true (not-false _ c.before.before.before.before.before.before.if2.false)))
     (λ c κs. search rules)
     (λ c. search rules)
     (λ c. rw (c.reached2.ensures.0, c.reached2.ensures.1) (used_up c.before.before.loop.invariant.2 c.before.loop-test.false)))
