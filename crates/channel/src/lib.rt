@@ -10,7 +10,7 @@ ghost use Rattle.channel.specs.Outcomes.{outcome_of, on_good_crc, on_expiry};
 use outgoing::Packet;
 
 // The MessageID of the last new packet.
-#[derive(Drop)]
+#[derive(Clone, Copy)]
 pub enum Stored {
     Nothing,
     Id(u8),
@@ -18,13 +18,13 @@ pub enum Stored {
 
 // The message that is not yet acknowledged, and how often it has been sent again; an empty packet
 // is no message.
-#[derive(Drop)]
+#[derive(Clone, Copy)]
 pub struct Pending {
     pub packet: Packet,
     pub retries: u8,
 }
 
-#[derive(Drop)]
+#[derive(Clone, Copy)]
 pub struct Channel {
     pub counter: u8,
     pub stored: Stored,
@@ -32,7 +32,7 @@ pub struct Channel {
 }
 
 // What a GoodCRC or the acknowledgement timer comes to for the pending message.
-#[derive(Drop)]
+#[derive(Clone, Copy)]
 pub enum Outcome {
     NonePending,
     Acknowledged,

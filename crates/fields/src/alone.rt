@@ -9,7 +9,7 @@ use night::Found;
 use port::{Actions, Answer};
 use slot::Slot;
 
-#[derive(Drop)]
+#[derive(Clone, Copy)]
 pub struct Alone {
     // Whether the port has answered, and that is all; if not, the rack is to be asked.
     pub settled: bool,

@@ -19,7 +19,7 @@ use source::Timer;
 pub mod alone;
 
 // What a field comes to.
-#[derive(Drop)]
+#[derive(Clone, Copy)]
 pub struct Field {
     pub found: Found,
     // Whether it can be read; where not, it has no answer, and the rack stays.
@@ -34,7 +34,7 @@ pub struct Field {
 
 // What stands where the reading stopped: nothing, a field that is not whole, one that is damaged, or one
 // that can be read.
-#[derive(Drop)]
+#[derive(Clone, Copy)]
 pub enum Ending {
     Whole,
     Cut,
@@ -45,7 +45,7 @@ pub enum Ending {
 }
 
 // What is left of a piece.
-#[derive(Drop)]
+#[derive(Clone, Copy)]
 pub struct Left {
     pub ending: Ending,
     // Whether the night may go on with the next piece, and how many bytes are then kept in front of it.

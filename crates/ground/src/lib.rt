@@ -7,7 +7,7 @@ ghost use Rattle.std.specs.Prelude.{◌≡◌, max};
 ghost use Rattle.ground.specs.Refusals.{number_of, refuse_if};
 
 // The paper's "Refusal numbers", one case for each row.
-#[derive(Drop)]
+#[derive(Clone, Copy)]
 pub enum Refusal {
     // 1: packet under 2 bytes
     TooShort,
@@ -33,7 +33,7 @@ pub enum Refusal {
 }
 
 // What a row of tests comes to: nothing to refuse, or the first refusal in the row.
-#[derive(Drop)]
+#[derive(Clone, Copy)]
 pub enum Verdict {
     Fine,
     Refused(Refusal),

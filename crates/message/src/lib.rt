@@ -11,7 +11,7 @@ pub const GOOD_CRC: u8 = 1;
 
 // The fields of a message as reading gives them and writing takes them. How many objects there are
 // is told by the object bytes.
-#[derive(Drop)]
+#[derive(Clone, Copy)]
 pub struct Fields {
     pub extended: bool,
     pub message_id: u8,

@@ -16,7 +16,7 @@ mod setups;
 
 // What the next field is. The bytes behind the port's number stand in the file; `behind` and `offer` hand
 // them out.
-#[derive(Drop)]
+#[derive(Clone, Copy)]
 pub enum Found {
     // Fewer bytes are left than the field has.
     Cut,
@@ -29,7 +29,7 @@ pub enum Found {
 }
 
 // A set-up as a field's value says it, or that it is not laid out as it must be.
-#[derive(Drop)]
+#[derive(Clone, Copy)]
 pub struct Laid {
     pub whole: bool,
     pub set_up: SetUp,

@@ -9,7 +9,7 @@ ghost use Rattle.offers.specs.Offers.{has, object_at, good_object, good_from, go
 ghost use Rattle.offers.specs.Requests.{fits, asked, fit_of, is_honoured};
 
 // An offer: its objects, as 32-bit words, and how many of them there are.
-#[derive(Drop)]
+#[derive(Clone, Copy)]
 pub struct Offer {
     pub objects: [u32; 7],
     pub count: u8,
@@ -17,7 +17,7 @@ pub struct Offer {
 
 // What a Request asks: the position in the offer, the voltage field there, the operating current
 // field, and the worth of the two.
-#[derive(Drop)]
+#[derive(Clone, Copy)]
 pub struct Asked {
     pub position: u8,
     pub voltage: u32,
@@ -26,7 +26,7 @@ pub struct Asked {
 }
 
 // Whether a Request fits an offer, and what it then asks.
-#[derive(Drop)]
+#[derive(Clone, Copy)]
 pub enum Fit {
     Unfit,
     Fits(Asked),

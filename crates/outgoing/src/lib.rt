@@ -11,7 +11,7 @@ use sending::{header_bytes, our_fields};
 pub type Objects = [u32; 7];
 
 // The bytes of a message, and how many there are; none is no message.
-#[derive(Drop)]
+#[derive(Clone, Copy)]
 pub struct Packet {
     pub bytes: [u8; 30],
     pub length: u8,

@@ -2,7 +2,7 @@
 // be understood.
 
 // What a line asks: to read a packet, to write given fields, to write what we send.
-#[derive(Drop)]
+#[derive(Clone, Copy)]
 pub enum Form {
     Packet,
     Write,
@@ -10,7 +10,7 @@ pub enum Form {
 }
 
 // Characters by what they do in a line.
-#[derive(Drop)]
+#[derive(Clone, Copy)]
 enum Sign {
     Digit(u8),
     Blank,
@@ -20,7 +20,7 @@ enum Sign {
     Other,
 }
 
-#[derive(Drop)]
+#[derive(Clone, Copy)]
 pub struct Line {
     pub form: Form,
     // The bytes before the `@`, at most 64 of them kept.

@@ -36,7 +36,7 @@ fn take_in(begun: Line, input: &[u8]) -> Line {
     l
 }
 
-#[derive(Drop)]
+#[derive(Clone, Copy)]
 struct Turn {
     more: bool,
     line: Line,

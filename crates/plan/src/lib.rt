@@ -18,7 +18,7 @@ mod doing;
 mod meeting;
 
 // What the protocol rules do to the port first.
-#[derive(Drop)]
+#[derive(Clone, Copy)]
 pub enum Prior {
     Nothing,
     Cleared,
@@ -30,7 +30,7 @@ pub enum Prior {
 
 // What is left of an event once the protocol rules have been asked: a refusal, nothing more to do, a
 // stimulus (and whether it is a timer, which no longer runs), or a new packet.
-#[derive(Drop)]
+#[derive(Clone, Copy)]
 pub enum Cue {
     Refused(Refusal),
     Done,
@@ -38,7 +38,7 @@ pub enum Cue {
     Hears(Heard),
 }
 
-#[derive(Drop)]
+#[derive(Clone, Copy)]
 pub struct Met {
     pub cue: Cue,
     pub prior: Prior,
@@ -47,7 +47,7 @@ pub struct Met {
 }
 
 // What is to be done.
-#[derive(Drop)]
+#[derive(Clone, Copy)]
 pub struct Plan {
     pub verdict: Verdict,
     pub prior: Prior,

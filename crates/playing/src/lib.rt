@@ -24,7 +24,7 @@ use tally::{Sums, Tally};
 mod laying;
 mod turns;
 
-#[derive(Drop)]
+#[derive(Clone, Copy)]
 pub struct Played {
     pub rack: Rack,
     pub tally: Tally,

@@ -22,13 +22,13 @@ pub mod packets;
 mod steps;
 
 // A struct around the state: a field of this type can be stored to.
-#[derive(Drop)]
+#[derive(Clone, Copy)]
 pub struct Phase {
     pub state: State,
 }
 
 // The port's memory.
-#[derive(Drop)]
+#[derive(Clone, Copy)]
 pub struct Port {
     pub phase: Phase,
     // MessageID counter, stored MessageID, pending message and its retries.
@@ -47,7 +47,7 @@ pub struct Port {
 
 // What can come to a port, packets and new offers aside: the four timers' expiries among them, and the
 // power answer.
-#[derive(Drop)]
+#[derive(Clone, Copy)]
 pub enum Event {
     Attach,
     Detach,
@@ -62,14 +62,14 @@ pub enum Event {
 }
 
 // The GoodCRC for a packet, or none.
-#[derive(Drop)]
+#[derive(Clone, Copy)]
 pub struct GoodCrc {
     pub sent: bool,
     pub bytes: HeaderBytes,
 }
 
 // What the supply is set to.
-#[derive(Drop)]
+#[derive(Clone, Copy)]
 pub enum Supply {
     Unchanged,
     Default,
@@ -77,7 +77,7 @@ pub enum Supply {
 }
 
 // At most one of each, in the order in which they are done. An empty packet is none to transmit.
-#[derive(Drop)]
+#[derive(Clone, Copy)]
 pub struct Actions {
     pub good_crc: GoodCrc,
     pub stop: Timer,
@@ -88,7 +88,7 @@ pub struct Actions {
 }
 
 // The answer: fine or refused, the next port, the actions, and what happened to held power.
-#[derive(Drop)]
+#[derive(Clone, Copy)]
 pub struct Answer {
     pub verdict: Verdict,
     pub port: Port,
@@ -97,7 +97,7 @@ pub struct Answer {
 }
 
 // What is done on the way: the next port, the message that goes out, and what else.
-#[derive(Drop)]
+#[derive(Clone, Copy)]
 pub struct Entered {
     pub port: Port,
     pub transmit: Packet,

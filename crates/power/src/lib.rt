@@ -8,13 +8,13 @@ ghost use Rattle.power.specs.Power.{none, judges, accepts, comes_into_force, giv
 use offers::{Asked, Offer};
 
 // What was last agreed and put in force.
-#[derive(Drop)]
+#[derive(Clone, Copy)]
 pub enum Contract {
     Nothing,
     Made(Asked),
 }
 
-#[derive(Drop)]
+#[derive(Clone, Copy)]
 pub struct Power {
     // The request that was last judged, accepted once the power answer is yes.
     pub accepted: Asked,
@@ -23,7 +23,7 @@ pub struct Power {
 }
 
 // What happens to held power in an event.
-#[derive(Drop)]
+#[derive(Clone, Copy)]
 pub enum Change {
     Nothing,
     Accepted,
@@ -32,7 +32,7 @@ pub enum Change {
 }
 
 // How a contract stands to an offer.
-#[derive(Drop)]
+#[derive(Clone, Copy)]
 pub enum Standing {
     NoContract,
     Honoured,

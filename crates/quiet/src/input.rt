@@ -11,7 +11,7 @@ const KEPT: usize = 65600;
 
 pub const ROOM: usize = 131200;
 
-#[derive(Drop)]
+#[derive(Clone, Copy)]
 pub struct Input {
     // How many bytes are kept, and the place of the first of them in the file.
     pub kept: usize,
@@ -23,7 +23,7 @@ pub struct Input {
 }
 
 // What a read brought: bytes up to an end, none where that is where it was; and whether it failed.
-#[derive(Drop)]
+#[derive(Clone, Copy)]
 pub struct Came {
     pub end: usize,
     pub failed: bool,

@@ -13,7 +13,7 @@ use libc::STDOUT_FILENO;
 use rack::Rack;
 use tally::Tally;
 
-#[derive(Drop)]
+#[derive(Clone, Copy)]
 struct Turn {
     input: Input,
     rack: Rack,

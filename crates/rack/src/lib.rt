@@ -19,7 +19,7 @@ use source::Timer;
 // The most ports of a rack.
 pub const PORTS: usize = 32;
 
-#[derive(Drop)]
+#[derive(Clone, Copy)]
 pub struct Rack {
     pub slots: [Slot; PORTS],
     // How many of the slots have a port, numbered from 1.
@@ -29,7 +29,7 @@ pub struct Rack {
 
 // The answer: fine or refused, the next rack, the actions of the port that the event came to, and what
 // happened to the power that it holds.
-#[derive(Drop)]
+#[derive(Clone, Copy)]
 pub struct RackAnswer {
     pub verdict: Verdict,
     pub rack: Rack,

@@ -11,7 +11,7 @@ use ground::{Refusal, Verdict, refuse_if};
 use message::Fields;
 
 // What reading a packet gives.
-#[derive(Drop)]
+#[derive(Clone, Copy)]
 pub enum Reading {
     Message { objects: u8, fields: Fields },
     Refused(Refusal),

@@ -17,7 +17,7 @@ use rack::{PORTS, Rack};
 use setup::SetUp;
 
 // What has been told.
-#[derive(Drop)]
+#[derive(Clone, Copy)]
 pub struct Told {
     // How many events there were.
     pub events: u64,
@@ -27,7 +27,7 @@ pub struct Told {
 }
 
 // How a night stands within a piece.
-#[derive(Drop)]
+#[derive(Clone, Copy)]
 pub struct Course {
     pub rack: Rack,
     // How many bytes of the piece were read.

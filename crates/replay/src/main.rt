@@ -14,7 +14,7 @@ use input::{Input, ROOM};
 use lines::{TEXT, Told};
 use rack::Rack;
 
-#[derive(Drop)]
+#[derive(Clone, Copy)]
 struct Turn {
     input: Input,
     rack: Rack,

@@ -24,7 +24,7 @@ pub fn state_of(s: Slot) -> u8 {
 }
 
 // What a row tells of a port: its state, its contract, and the last three columns.
-#[derive(Drop)]
+#[derive(Clone, Copy)]
 struct Row {
     state: u8,
     contract: Contract,

@@ -19,14 +19,14 @@ const LARGEST_LIMIT: u32 = 200000;
 const LEAST: u32 = 30000;
 
 // A port of a set-up: its share, its limit and its first offer.
-#[derive(Drop)]
+#[derive(Clone, Copy)]
 pub struct Setting {
     pub share: u32,
     pub limit: u32,
     pub offer: Offer,
 }
 
-#[derive(Drop)]
+#[derive(Clone, Copy)]
 pub struct SetUp {
     pub settings: [Setting; PORTS],
     // How many of the settings there are.
@@ -35,7 +35,7 @@ pub struct SetUp {
 }
 
 // Fine and the rack, or refused and a rack without ports.
-#[derive(Drop)]
+#[derive(Clone, Copy)]
 pub struct Started {
     pub verdict: Verdict,
     pub rack: Rack,

@@ -9,7 +9,7 @@ ghost use Rattle.slot.specs.Answers.{has_asked, answer_of, joined, settled};
 
 use port::{Actions, Answer, Event, Port};
 
-#[derive(Drop)]
+#[derive(Clone, Copy)]
 pub struct Slot {
     pub port: Port,
     pub share: u32,

@@ -12,7 +12,7 @@ ghost use Rattle.source.specs.Changes.{change_of, when_acknowledged, when_supply
 use power::{Change, Standing};
 
 // The sixteen states, by the paper's names.
-#[derive(Drop)]
+#[derive(Clone, Copy)]
 pub enum State {
     Detached,
     Offer,
@@ -33,7 +33,7 @@ pub enum State {
 }
 
 // The timers that are started and stopped.
-#[derive(Drop)]
+#[derive(Clone, Copy)]
 pub enum Timer {
     NoTimer,
     SenderResponse,
@@ -42,7 +42,7 @@ pub enum Timer {
 }
 
 // What can happen to a port, new packets aside.
-#[derive(Drop)]
+#[derive(Clone, Copy)]
 pub enum Stimulus {
     Attach,
     Detach,
@@ -59,7 +59,7 @@ pub enum Stimulus {
 }
 
 // A new packet, as far as the states tell packets apart.
-#[derive(Drop)]
+#[derive(Clone, Copy)]
 pub enum Heard {
     FittingRequest,
     OtherRequest,
@@ -72,7 +72,7 @@ pub enum Heard {
 }
 
 // What the states ask about the port.
-#[derive(Drop)]
+#[derive(Clone, Copy)]
 pub struct Facts {
     // Whether a message is pending, the receiver is known to be connected, the newest offer has gone
     // out, and fifty offers have.
@@ -85,7 +85,7 @@ pub struct Facts {
 }
 
 // Where the rules lead: nowhere, which is refusal 8, or some way on.
-#[derive(Drop)]
+#[derive(Clone, Copy)]
 pub enum Lead {
     Refuse,
     To(Way),
@@ -93,7 +93,7 @@ pub enum Lead {
 
 // A way on: no further, on in the same state once the offer or the Soft_Reset is acknowledged, or into
 // a state. Hard is entered with a signal, or without one where a Hard Reset was heard.
-#[derive(Drop)]
+#[derive(Clone, Copy)]
 pub enum Way {
     Stay,
     Offered,

@@ -9,7 +9,7 @@ use rack::{Rack, RackAnswer};
 use setup::SetUp;
 
 // The port that stands alone and its limit; the rack, and the set-up in hand for the next one.
-#[derive(Drop)]
+#[derive(Clone, Copy)]
 pub struct Bench {
     pub port: Port,
     pub limit: u32,
@@ -18,7 +18,7 @@ pub struct Bench {
 }
 
 // What came to the port that stands alone: its answer, and the limit afterwards.
-#[derive(Drop)]
+#[derive(Clone, Copy)]
 pub struct Step {
     pub answer: Answer,
     pub limit: u32,

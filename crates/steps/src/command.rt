@@ -5,7 +5,7 @@ use crate::rest::{Rest, behind_word};
 use port::Event;
 
 // What comes to a port; the packet's bytes and the offer's objects follow the word.
-#[derive(Drop)]
+#[derive(Clone, Copy)]
 pub enum Coming {
     Unknown,
     Lone(Event),
@@ -15,7 +15,7 @@ pub enum Coming {
 
 // What is to be done. Something comes to the port that stands alone, or to the port of the rack with
 // this number; or one of the two is set up.
-#[derive(Drop)]
+#[derive(Clone, Copy)]
 pub enum Order {
     Alone(Coming),
     InRack(u8, Coming),
@@ -25,7 +25,7 @@ pub enum Order {
     SetUp,
 }
 
-#[derive(Drop)]
+#[derive(Clone, Copy)]
 pub struct Command {
     pub order: Order,
     pub rest: Rest,

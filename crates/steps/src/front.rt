@@ -1,7 +1,7 @@
 // The number of a port of the rack, which a line may begin with, as it comes in character by character.
 use crate::rest::digit_of;
 
-#[derive(Drop)]
+#[derive(Clone, Copy)]
 pub struct Front {
     // How many digits there are, three at most, and what they say.
     pub figures: u8,

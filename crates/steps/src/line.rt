@@ -1,7 +1,7 @@
 // A line of input as it comes in, character by character.
 use crate::front::Front;
 
-#[derive(Drop)]
+#[derive(Clone, Copy)]
 pub struct Line {
     // The first 240 characters, how many there are, and how many without the spaces and carriage
     // returns at the end.

@@ -73,7 +73,7 @@ fn respond(l: Line, b: Bench) -> Bench {
 }
 
 // What is kept between two characters: the line that has not ended, and the bench.
-#[derive(Drop)]
+#[derive(Clone, Copy)]
 struct Kept {
     line: Line,
     bench: Bench,
@@ -101,7 +101,7 @@ fn take_in(begun: Kept, input: &[u8]) -> Kept {
     }
 }
 
-#[derive(Drop)]
+#[derive(Clone, Copy)]
 struct Turn {
     more: bool,
     kept: Kept,

@@ -1,7 +1,7 @@
 // What follows the word of a line, character by character: numbers, where there are some, and bytes.
 use offers::Offer;
 
-#[derive(Drop)]
+#[derive(Clone, Copy)]
 pub struct Rest {
     // Whether the word, which is passed over, has not ended.
     pub in_word: bool,

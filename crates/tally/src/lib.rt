@@ -13,7 +13,7 @@ use outgoing::Packet;
 use port::{Actions, GoodCrc, Supply};
 use source::{State, Timer};
 
-#[derive(Drop)]
+#[derive(Clone, Copy)]
 pub struct Tally {
     // Answers by the number of their verdict: those that were not refused stand first.
     pub verdicts: [u64; 11],
@@ -24,7 +24,7 @@ pub struct Tally {
 }
 
 // All of it but the answers by verdict: a loop that keeps those in their place need not hand them on.
-#[derive(Drop)]
+#[derive(Clone, Copy)]
 pub struct Sums {
     pub accepts: u64,
     pub rejects: u64,

@@ -12,7 +12,7 @@ pub fn put(out: &mut [u8], at: usize, piece: &[u8]) -> usize
 {
     if at <= out.len() {
         if piece.len() <= out.len() - at {
-            bytes::copy(piece, &mut out[at..]);
+            out[at..at + piece.len()].copy_from_slice(piece);
             return at + piece.len();
         }
         return at;

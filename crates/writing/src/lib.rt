@@ -13,7 +13,7 @@ use ground::{Refusal, Verdict, refuse_if};
 use message::Fields;
 
 // What writing a message comes to: how many bytes were written, or the refusal.
-#[derive(Drop)]
+#[derive(Clone, Copy)]
 pub enum Writing {
     Written(usize),
     Refused(Refusal),
@@ -73,7 +73,7 @@ fn put_objects(part: &mut [u8], objects: &[u8])
     requires { length objects.now ≤ length part.old }
     ensures { part.new ≡ over objects.now part.old }
 {
-    bytes::copy(objects, part);
+    part[..objects.len()].copy_from_slice(objects);
 }
 
 // The message at the front of a part: its header, and its objects behind it.
