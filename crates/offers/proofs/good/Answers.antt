@@ -1,5 +1,5 @@
 use borrow.Author.Rules.{rules}
-use borrow.Author.Tests.{le-leb, lt-leb}
+use borrow.Author.Tests.{le-leb, lt-leb, ne_eqb}
 use Rattle.offers.specs.Offers.{good_offer}
 use Rattle.offers.proofs.good.Goals as goal
 
@@ -17,4 +17,4 @@ returns-then-first c = rw (le-leb _ _ c.if-n-lt1.false, le-leb _ _ c.if-n-gt7.fa
 
 pub returns : goal.returns
 unfolding good_offer
-returns c = rw (le-leb _ _ c.if-n-lt1.false, le-leb _ _ c.if-n-gt7.false, ← c.object_at.ensures, ← c.voltage-first.ensures, c.if-first.false)
+returns c = rw (le-leb _ _ c.if-n-lt1.false, le-leb _ _ c.if-n-gt7.false, ← c.object_at.ensures, ← c.voltage-first.ensures, ne_eqb _ _ c.if-first.false)

@@ -7,15 +7,17 @@ use Rattle.reading.proofs.Fine.{readable}
 use Rattle.std.proofs.lemmas.Grind.{common_steps}
 use Rattle.reading.proofs.objects.Goals as goal
 
--- 11 old arguments, 9 goals: ['tried-v-requires', 'slice_bounds-result-count', 'slice_bounds-result-start', 'slice_bounds-result-end', 'returns-then-s-ge2', 'slice_bounds-result-end-in-Fine', 'slice_bounds-result-end-in-Refused', 'returns-else-s-ge2', 'returns-in-Refused']
 pub returns-then-s-ge2 : goal.returns-then-s-ge2
 unfolding part_start part_of
-returns-then-s-ge2 c = grind (arith, common_steps)
+returns-then-s-ge2 c =
+    let told = sym c.tried-v.ensures ∙ c.in-Fine.is in
+    record { memory = refl; start = rw told (omega arith); bytes = rw told (rest 2 c.args.s.now) }
 
 pub returns-else-s-ge2 : goal.returns-else-s-ge2
-unfolding part_start part_of
-returns-else-s-ge2 c = grind (arith, common_steps)
+returns-else-s-ge2 c = let told = readable _ (sym c.tried-v.ensures ∙ c.in-Fine.is) in absurd (omega arith)
 
 pub returns-in-Refused : goal.returns-in-Refused
 unfolding part_start part_of
-returns-in-Refused c = grind (arith, common_steps)
+returns-in-Refused c =
+    let told = sym c.tried-v.ensures ∙ c.in-Refused.is in
+    record { memory = refl; start = rw told (omega arith); bytes = rw told refl }

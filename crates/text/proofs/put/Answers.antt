@@ -1,7 +1,10 @@
 use borrow.Author.Rules.{rules}
 use borrow.Author.Tests.{le-leb, lt-leb}
-use lib.Seq.{take-length}
-use Rattle.ground.proofs.Laid.{over_back}
+use native.Mathlib.Omega.{arith}
+use Prim.Native.Nat.{◌+◌, ◌-◌}
+use mathlib.Core.Path.{◌≡◌}
+use lib.ListN.{length}
+use lib.Seq.{drop-drop}
 use Rattle.text.specs.Text.{typed}
 use Rattle.text.proofs.put.Goals as goal
 
@@ -11,8 +14,9 @@ returns-then-piece-out c =
     let within = le-leb _ _ c.if-at-out.true in
     let room = le-leb _ _ c.if-piece-out.true in
     let a = c.args in
-    let copied = rw (take-length a.piece.now) at c.copy.ensures.1 in
-    rw (within, room, over_back a.piece.now _ a.at a.out.now copied)
+    let copied = c.copy_from_slice.ensures.after in
+    let whole : a.at + length a.piece.now - a.at ≡ length a.piece.now = omega arith in
+    rw (within, room, copied, whole, drop-drop (length a.piece.now) a.at a.out.now)
 
 pub returns-then-at-out : goal.returns-then-at-out
 unfolding typed

@@ -1,0 +1,17 @@
+-- `text::put_decimal` types the digits. The loop's invariant: what is left of the number, in front of the digits so far, is the whole of it.
+use Prim.Native.Nat.{◌-◌, ◌<◌, ◌≤◌}
+use borrow.Author.Rules.{rules}
+use native.Mathlib.Omega.{arith}
+use mathlib.Core.Path.{◌≡◌, refl, ◌∙◌}
+use mathlib.Core.List.{[]}
+use lib.ListN.{length, drop}
+use Rattle.text.specs.Text.{digits_before}
+use Rattle.text.proofs.Digits.{ten, first, further, full}
+use Rattle.text.proofs.put_decimal.Given as goal
+
+abbrev pub invariant-loop-i : goal.invariant-loop-i
+invariant-loop-i l =
+    (l.i ≤ 10) × (length l.digits ≡ 10) × (l.out ≡ l.initial.out) × (digits_before 10 l.n [] ≡ digits_before l.i l.left (drop l.i l.digits))
+
+abbrev pub decreases-loop-i : goal.decreases-loop-i
+decreases-loop-i l = l.i
