@@ -8,9 +8,23 @@ use Rattle.text.specs.Text.{line, typed_rest}
 use Rattle.text.proofs.Rest.{nothing, begun, gone_on, ended}
 use Rattle.text.proofs.put_bytes.Goals as goal
 
--- 14 old arguments, 11 goals: ['put-requires', 'returns-then-src-eq0', 'bounds-src-0', 'put_hex-end-requires', 'loop-i-init', 'bounds-src-i', 'put_next-end-requires', 'overflow_add-i', 'loop-i-smaller', 'loop-i-preserved', 'returns']
-pub put_hex-end-requires : goal.put_hex-end-requires
-put_hex-end-requires c = c.put.ensures ∙ sym (nothing c.args.src.now _ c.if-src-eq0.true)
+pub returns-then-src-eq0 : goal.returns-then-src-eq0
+returns-then-src-eq0 c = c.put.ensures ∙ sym (nothing c.args.src.now _ c.if-src-eq0.true)
 
-pub put_next-end-requires : goal.put_next-end-requires
-put_next-end-requires c = (omega arith, refl, refl)
+pub loop-i-init : goal.loop-i-init
+loop-i-init c = (omega arith, refl, refl)
+
+pub loop-i-preserved : goal.loop-i-preserved
+loop-i-preserved c =
+    let src = c.args.src.now in
+    let turn = c.loop-i in
+    let inside : turn.i < length src = search rules in
+    (search rules, search rules, turn.invariant.2 ∙ rw c.put_next-end.ensures (gone_on src turn.i _ inside))
+
+pub returns : goal.returns
+returns c =
+    let src = c.args.src.now in
+    let turn = c.loop-i in
+    let past : length src ≤ turn.i = search rules in
+    let some : 0 < length src = omega arith in
+    sym (ended src turn.i _ past) ∙ sym turn.invariant.2 ∙ rw c.put_hex-end.ensures (sym (begun src _ some))

@@ -1,0 +1,7 @@
+use borrow.Author.Rules.{rules}
+use Rattle.outgoing.specs.Packets.{control_of}
+use Rattle.outgoing.proofs.control.Goals as goal
+
+pub returns : goal.returns
+unfolding control_of
+returns c = rw (c.header_bytes-h.ensures, c.our_fields.ensures)
