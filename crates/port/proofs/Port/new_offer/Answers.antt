@@ -5,8 +5,8 @@ use Rattle.port.proofs.Port.new_offer.Goals as goal
 
 pub returns-then-good : goal.returns-then-good
 unfolding new_offer_of
-returns-then-good c = rw (← c.good2.ensures, c.if-good.true, ← c.runs.ensures) c.happens.ensures
+returns-then-good c = rw (← c.good.ensures, c.if-good.true, ← c.runs.ensures) c.happens.ensures
 
 pub returns : goal.returns
 unfolding new_offer_of
-returns c = rw (← c.good2.ensures, c.if-good.false) c.refused.ensures
+returns c = rw (← c.good.ensures, c.if-good.false) c.refused.ensures

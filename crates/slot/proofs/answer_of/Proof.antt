@@ -1,9 +1,0 @@
-use Rattle.slot.proofs.answer_of.Statement.{statement}
-use Rattle.slot.proofs.answer_of.Tie as tie
-
-pub answer_of_spec : {M : Type 1} → statement M
-answer_of_spec =
-    tie.close
-    (tie.spec
-    (λ c. rw c.if1.true)
-    (λ c. rw c.if1.false))
