@@ -9,19 +9,25 @@ use Rattle.tally.specs.Checksum.{mixed_all, mixed_packet}
 use Rattle.tally.proofs.Mixing.{one_more_in, all_in}
 use Rattle.tally.proofs.mixed_packet.Goals as goal
 
--- 12 old arguments, 11 goals: ['overflow_cast-n', 'overflow_cast-m', 'mixed-mix-requires', 'loop-i-init', 'bounds-bytes-i', 'mixed-mix-requires-in-loop-i', 'overflow_add-i', 'loop-i-smaller', 'loop-i-preserved', 'returns-else-i-lt30', 'returns-after-loop-i']
+pub loop-i-preserved : goal.loop-i-preserved
+unfolding mixed_packet
+loop-i-preserved c =
+    let m = c.args.m in
+    let q = c.loop-i in
+    let long : length m.bytes ≡ 30 = search rules in
+    q.invariant ∙ rw c.mixed-mix-in-loop-i.ensures (one_more_in m.bytes m.length q.i q.mix (search rules) (search rules))
+
 pub returns-else-i-lt30 : goal.returns-else-i-lt30
 unfolding mixed_packet
 returns-else-i-lt30 c =
     let m = c.args.m in
     let q = c.loop-i in
     let long : length m.bytes ≡ 30 = search rules in
-    q.invariant ∙ rw c.mixed-mix-in-loop-i.ensures (one_more_in m.bytes m.length q.i q.mix (search rules) (search rules))
+    all_in m.bytes m.length q.i q.mix _ q.invariant (simp length-take (omega (arith, c.if-i-lt30.false))) ∙ rw c.mixed-mix.ensures
 
 pub returns-after-loop-i : goal.returns-after-loop-i
 unfolding mixed_packet
 returns-after-loop-i c =
     let m = c.args.m in
     let q = c.loop-i in
-    let long : length m.bytes ≡ 30 = search rules in
-    all_in m.bytes m.length q.i q.mix _ q.invariant (simp length-take (omega (arith, ltb-false q.i 30 c.if-i-lt30.false))) ∙ rw c.mixed-mix.ensures
+    all_in m.bytes m.length q.i q.mix _ q.invariant (simp length-take (omega arith)) ∙ rw c.mixed-mix.ensures

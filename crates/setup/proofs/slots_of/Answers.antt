@@ -1,0 +1,26 @@
+-- `setup::slots_of` meets its contract: the loop has filled the slots passed. Assumes nothing.
+use borrow.Author.Rules.{rules}
+use Prim.Native.Nat.{◌≤◌, ◌-◌}
+use native.Mathlib.Omega.{arith}
+use mathlib.Core.Path.{◌≡◌, ◌∙◌}
+use mathlib.Core.List.{map}
+use lib.ListN.{take, length, length-set}
+use Rattle.rack.specs.Ports.{most_ports}
+use Rattle.rack.proofs.Loads.{long}
+use Rattle.setup.specs.SetUps.{slot_of, no_setting}
+use Rattle.setup.proofs.Filled.{filled_more, filled}
+use Rattle.setup.proofs.slots_of.Goals as goal
+
+pub loop-i-preserved : goal.loop-i-preserved
+loop-i-preserved c =
+    let l = c.args.settings in
+    let q = c.loop-i in
+    let n : length l ≡ most_ports = search (rules, long) depth 7 in
+    (omega arith, length-set q.slots q.i c.slot_of.result ∙ q.invariant.1, filled_more slot_of l q.slots q.i no_setting c.slot_of.result c.slot_of.ensures (omega arith) (omega (arith, q.invariant.1)) q.invariant.2)
+
+pub returns : goal.returns
+returns c =
+    let l = c.args.settings in
+    let q = c.loop-i in
+    let n : length l ≡ most_ports = search (rules, long) depth 7 in
+    filled slot_of l q.slots q.i most_ports n q.invariant.1 c.loop-i-test.false q.invariant.2

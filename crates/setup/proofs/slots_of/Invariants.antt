@@ -1,0 +1,18 @@
+-- `setup::slots_of` meets its contract: the loop has filled the slots passed. Assumes nothing.
+use borrow.Author.Rules.{rules}
+use Prim.Native.Nat.{◌≤◌, ◌-◌}
+use native.Mathlib.Omega.{arith}
+use mathlib.Core.Path.{◌≡◌, ◌∙◌}
+use mathlib.Core.List.{map}
+use lib.ListN.{take, length, length-set}
+use Rattle.rack.specs.Ports.{most_ports}
+use Rattle.rack.proofs.Loads.{long}
+use Rattle.setup.specs.SetUps.{slot_of, no_setting}
+use Rattle.setup.proofs.Filled.{filled_more, filled}
+use Rattle.setup.proofs.slots_of.Given as goal
+
+abbrev pub invariant-loop-i : goal.invariant-loop-i
+invariant-loop-i l = (l.i ≤ most_ports) × (length l.slots ≡ most_ports) × (take l.i l.slots ≡ map slot_of (take l.i l.settings))
+
+abbrev pub decreases-loop-i : goal.decreases-loop-i
+decreases-loop-i l = most_ports - l.i
