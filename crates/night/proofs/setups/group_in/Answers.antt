@@ -1,6 +1,5 @@
 -- `night::setups::group_in` meets its contract: what the whole value says is what the rest of it says of the set-up so far. Assumes nothing.
 use borrow.Author.Rules.{rules}
-use borrow.Author.Tests.{not-true, not-false}
 use Prim.Native.Nat.{◌≤◌}
 use native.Mathlib.Omega.{arith}
 use mathlib.Core.Path.{◌≡◌, sym, ◌∙◌}
@@ -22,19 +21,19 @@ pub returns-then-not-is_port : goal.returns-then-not-is_port
 returns-then-not-is_port c =
     let s = c.args.s.now in
     let q = c.loop-left in
-    c.not_laid.ensures ∙ at_neither s q.u q.at q.left q.invariant.1 c.loop-left-test.true _ c.from-f.ensures (sym c.is_supply.ensures ∙ c.if-is_supply.false) (sym c.is_port.ensures ∙ not-true _ c.if-not-is_port.true)
+    c.not_laid.ensures ∙ at_neither s q.u q.at q.left q.invariant.1 c.loop-left-test.true _ c.from-f.ensures (sym c.is_supply.ensures ∙ c.if-is_supply.false) (sym c.is_port.ensures ∙ c.if-not-is_port.true)
 
 pub overflow_add-at : goal.overflow_add-at
 overflow_add-at c =
     let s = c.args.s.now in
     let q = c.loop-left in
-    omega (arith, within s q.at _ c.from-f.ensures q.invariant.0 (sym c.is_port.ensures ∙ not-false _ c.if-not-is_port.false), c.size-at.ensures)
+    omega (arith, within s q.at _ c.from-f.ensures q.invariant.0 (sym c.is_port.ensures ∙ c.if-not-is_port.false), c.size-at.ensures)
 
 pub loop-left-preserved : goal.loop-left-preserved
 loop-left-preserved c =
     let s = c.args.s.now in
     let q = c.loop-left in
-    let port = sym c.is_port.ensures ∙ not-false _ c.if-not-is_port.false in
+    let port = sym c.is_port.ensures ∙ c.if-not-is_port.false in
     rw (c.size-at.ensures, c.placed-u.ensures, c.setting_of.ensures, c.value.ensures)
     (within s q.at _ c.from-f.ensures q.invariant.0 port, at_port_lem s q.u q.at q.left q.invariant.1 c.loop-left-test.true _ c.from-f.ensures (sym c.is_supply.ensures ∙ c.if-is_supply.false) port)
 
