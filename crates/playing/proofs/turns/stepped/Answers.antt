@@ -1,0 +1,7 @@
+use borrow.Author.Rules.{rules}
+use mathlib.Core.Path.{◌∙◌}
+use Rattle.playing.proofs.Meets.{as_stepped}
+use Rattle.playing.proofs.turns.stepped.Goals as goal
+
+pub returns : goal.returns
+returns c = c.done.ensures ∙ rw (c.met-m.ensures, c.offer_in-o.ensures) (as_stepped _ _ _ _ _)
