@@ -1,14 +1,13 @@
 -- Where no Request sets capability mismatch, everything is as before request 01: in any rack each such event gets the answer of the program that compares both
 -- currents of every Request; and through any list of them the rack and the history are the same. Assumes nothing.
 use Prim.Native.Nat.{ℕ}
-use mathlib.Core.Path.{◌≡◌, refl, sym, ap, ◌∙◌}
+use mathlib.Core.Path.{◌≡◌, refl, sym, ap}
 use mathlib.Core.Bool.{Bool, true, false, cond, ◌&&◌}
 use mathlib.Core.List.{List, [], ◌∷◌}
 use Rattle.ground.specs.declared.Refusal.TheVariants.{NotInRack}
 use Rattle.reading.specs.declared.Reading.{Reading}
 use Rattle.reading.specs.Reading.{read_of, part_of}
 use Rattle.offers.specs.declared.Offer.{Offer}
-use Rattle.offers.specs.declared.Fit.{Fit}
 use Rattle.offers.specs.Objects.{is_mismatch}
 use Rattle.offers.specs.Requests.{asked, judged, fit_of}
 use Rattle.offers.proofs.CapabilityMismatch.{clear_as_before}
@@ -24,7 +23,7 @@ use Rattle.rack.specs.Runs.{Happens}
 use Rattle.setup.specs.declared.SetUp.{SetUp}
 use Rattle.demands.specs.Programs.{rack_now, history}
 use Rattle.demands.specs.Ours.{ours}
-use Rattle.demands.specs.Fitting.{both_compared, is_request, judged_by, read_by, own_by, fitting_by, mismatch_in, sets_mismatch, NoneSetsIt}
+use Rattle.demands.specs.Fitting.{both_compared, is_request, judged_by, read_by, own_by, mismatch_in, sets_mismatch, NoneSetsIt}
 use Rattle.demands.specs.WrongPrograms.{hears_no_mismatch}
 use Rattle.demands.proofs.AnswerAlike.{Alike, lead_alike}
 

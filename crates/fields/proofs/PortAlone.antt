@@ -8,7 +8,6 @@ use lib.Dec.{T, eqb}
 use lib.ListN.{length, drop, set}
 use borrow.Author.Tests.{eqb-true, not-true}
 use Rattle.ground.proofs.Rows.{first, second}
-use Rattle.port.specs.declared.Port.{Port}
 use Rattle.slot.specs.declared.Slot.{Slot}
 use Rattle.slot.specs.Answers.{has_asked, settled}
 use Rattle.rack.specs.declared.Rack.{Rack}

@@ -14,7 +14,7 @@ use Rattle.night.specs.Fields.{size_of, is_whole}
 use Rattle.night.specs.Events.{next_of}
 use Rattle.night.specs.SetUps.{set_up_in}
 use Rattle.fields.specs.declared.Field.{Field}
-use Rattle.fields.specs.Answers.{field_by, field_of, laid_field, fields_in, last_rack, size_of_all, Through}
+use Rattle.fields.specs.Answers.{field_by, field_of, fields_in, last_rack, size_of_all, Through}
 
 -- ---- a field does not reach past the end
 abbrev NotCut : Found → Type 0

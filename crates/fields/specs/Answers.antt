@@ -1,5 +1,5 @@
 -- What a field of a night comes to over a rack, and all fields one after the other: the list of answers. docs/NIGHT.md says which fields there are.
-use Rattle.std.specs.Prelude.{ℕ, zero, suc, ◌+◌, ◌≡◌, Bool, true, false, cond, List, [], ◌∷◌, length, drop}
+use Rattle.std.specs.Prelude.{ℕ, zero, suc, ◌+◌, ◌≡◌, true, false, cond, List, [], ◌∷◌, length, drop}
 use Rattle.ground.specs.declared.Verdict.{Verdict}
 use Rattle.ground.specs.declared.Verdict.TheVariants.{Fine, Refused}
 use Rattle.port.specs.Memory.{no_actions}

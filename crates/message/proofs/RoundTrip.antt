@@ -5,7 +5,6 @@ use native.Mathlib.Omega.{arith}
 use mathlib.Core.Path.{◌≡◌, refl, sym, ap, subst, ◌∙◌}
 use mathlib.Core.Bool.{Bool, true, false}
 use lib.Dec.{eqb}
-use Rattle.message.specs.Layout.{values}
 use Rattle.message.specs.Header.{bit_of, fields_of, objects_of, header_of, Fits}
 use Rattle.message.specs.declared.Fields.{Fields}
 

@@ -14,7 +14,6 @@ use Rattle.night.specs.declared.Found.{Found}
 use Rattle.night.specs.Fields.{size_of}
 use Rattle.night.specs.Events.{next_of}
 use Rattle.night.specs.SetUps.{set_up_in}
-use Rattle.fields.specs.declared.Field.{Field}
 use Rattle.fields.specs.Answers.{field_by, field_of, fields_in}
 use Rattle.tally.specs.declared.Tally.{Tally}
 use Rattle.playing.specs.declared.Played.{Played}

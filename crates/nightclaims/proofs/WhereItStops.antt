@@ -6,7 +6,7 @@ use mathlib.Core.Path.{◌≡◌, refl, sym, ap, ◌∙◌}
 use mathlib.Core.Bool.{Bool, true, false, cond}
 use mathlib.Core.List.{List, ◌++◌}
 use lib.Dec.{eqb}
-use lib.ListN.{length, take, drop, length-drop, length-take}
+use lib.ListN.{length, take, drop, length-drop}
 use lib.Seq.{take-append-le, take-take, take-add, drop_at, length-take-le}
 use Rattle.portclaims.proofs.Truth.{true_not_false}
 use Rattle.rack.specs.declared.Rack.{Rack}

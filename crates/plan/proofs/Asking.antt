@@ -1,5 +1,5 @@
 -- A plan asks the power rule exactly where the port, stepped so, has come to ask it. Assumes nothing.
-use mathlib.Core.Path.{◌≡◌, refl, sym, ◌∙◌}
+use mathlib.Core.Path.{◌≡◌, refl, sym}
 use mathlib.Core.Bool.{Bool, true, false, not, ◌&&◌}
 use lib.Dec.{T}
 use Rattle.offers.specs.declared.Offer.{Offer}
@@ -19,7 +19,7 @@ use Rattle.port.specs.declared.Port.{Port}
 use Rattle.port.specs.declared.Answer.{Answer}
 use Rattle.port.specs.Memory.{state_of}
 use Rattle.portclaims.specs.Between.{implies}
-use Rattle.portclaims.proofs.Truth.{true_not_false, holds, not_true, then}
+use Rattle.portclaims.proofs.Truth.{true_not_false}
 use Rattle.portclaims.proofs.Ways.{state_after}
 use Rattle.portclaims.proofs.Led.{turn_state}
 use Rattle.slot.specs.Answers.{has_asked}

@@ -22,7 +22,7 @@ use Rattle.channel.specs.declared.Outcome.TheVariants.{NonePending, Acknowledged
 use Rattle.channel.specs.Channel.{is_repeat}
 use Rattle.channel.specs.Outcomes.{on_expiry, on_good_crc}
 use Rattle.power.specs.declared.Change.{Change}
-use Rattle.power.specs.Power.{nothing_asked, changed, judges}
+use Rattle.power.specs.Power.{nothing_asked}
 use Rattle.source.specs.declared.State.{State}
 use Rattle.source.specs.declared.Stimulus.{Stimulus}
 use Rattle.source.specs.declared.Timer.{Timer}
@@ -41,17 +41,16 @@ use Rattle.port.specs.declared.Answer.{Answer}
 use Rattle.port.specs.declared.Event.{Event}
 use Rattle.port.specs.Memory.{state_of, facts_of, running_in, no_crc, refused_by, pending_in}
 use Rattle.port.specs.Entering.{enter}
-use Rattle.port.specs.Steps.{turn, led_to, happens, acknowledged, failed, resent, by_outcome, nothing_done, event_of, replaced, offer_judged, new_offer_of}
+use Rattle.port.specs.Steps.{turn, led_to, happens, acknowledged, failed, resent, by_outcome, nothing_done, event_of, offer_judged, new_offer_of}
 use Rattle.port.specs.Packets.{meaning_in, heard_as, asked_by, is_soft_reset, crc_for, hearing, led_by, new_packet, other_packet, good_crc_heard, by_meaning, message_of, packet_of, read_to, first_object}
-use Rattle.portclaims.proofs.Truth.{true_not_false, holds, not_true, not_false, then, and}
+use Rattle.portclaims.proofs.Truth.{holds, not_true, not_false, then, and}
 use Rattle.slot.specs.declared.Slot.{Slot}
 use Rattle.slot.specs.Load.{approves}
 use Rattle.slot.specs.Answers.{has_asked, answer_of, joined, judged, settled}
 use Rattle.plan.specs.declared.Prior.{Prior}
 use Rattle.plan.specs.declared.Cue.{Cue}
 use Rattle.plan.specs.declared.Met.{Met}
-use Rattle.plan.specs.declared.Plan.{Plan}
-use Rattle.plan.specs.Plans.{plain, met_outcome, met_event, met_repeat, met_new, is_good_crc, met_meaning, met_message, met_reading, met_packet, met_offer, refuses, goes, is_judge, still_runs, plan_led, plan_heard, plan_by, plan_of, answered_by, settled_plan, after, judging, resends, performed, done_plan, done_of}
+use Rattle.plan.specs.Plans.{plain, met_outcome, met_event, met_repeat, met_new, is_good_crc, met_meaning, met_message, met_reading, met_packet, met_offer, refuses, goes, is_judge, still_runs, plan_led, plan_heard, plan_of, answered_by, settled_plan, after, judging, resends, performed, done_plan, done_of}
 use Rattle.plan.proofs.Asking.{quiet_test, ask_test, no_stimulus_asks, asks_elsewhere, is_judge_lem, never, not_asked}
 
 -- where the power answer leads

@@ -23,7 +23,6 @@ use Rattle.channel.specs.Outcomes.{on_expiry, on_good_crc}
 use Rattle.power.specs.declared.Change.{Change}
 use Rattle.power.specs.declared.Power.{Power}
 use Rattle.power.specs.Power.{nothing_asked, judges}
-use Rattle.source.specs.declared.State.{State}
 use Rattle.source.specs.declared.Stimulus.{Stimulus}
 use Rattle.source.specs.declared.Timer.{Timer}
 use Rattle.source.specs.declared.Timer.TheVariants.{NoTimer}
@@ -34,7 +33,6 @@ use Rattle.source.specs.States.{listens}
 use Rattle.stimuli.specs.Leads.{leads}
 use Rattle.source.specs.Changes.{change_of}
 use Rattle.hearing.specs.Packets.{on_packet}
-use Rattle.port.specs.declared.GoodCrc.{GoodCrc}
 use Rattle.port.specs.declared.Port.{Port}
 use Rattle.port.specs.declared.Answer.{Answer}
 use Rattle.port.specs.declared.Event.{Event}

@@ -3,9 +3,8 @@ use Prim.Native.Nat.{ℕ, zero, suc, ◌+◌, ◌-◌, ◌*◌, ◌<◌, ◌≤�
 use native.Mathlib.Omega.{arith}
 use native.Mathlib.Nat.{not-suc-le-zero}
 use mathlib.Core.Path.{◌≡◌, refl, sym, ap, subst, ◌∙◌}
-use mathlib.Core.Bool.{Bool, true, false, cond}
+use mathlib.Core.Bool.{Bool, true, false}
 use mathlib.Core.List.{List}
-use lib.Dec.{leb}
 use lib.ListN.{length, drop, set, length-drop, length-set}
 use lib.Seq.{drop-drop, get_or-set_same}
 use borrow.Author.Tests.{leb-true}
@@ -19,22 +18,20 @@ use Rattle.port.specs.Memory.{state_of, no_actions}
 use Rattle.portclaims.proofs.Truth.{true_not_false}
 use Rattle.slot.specs.declared.Slot.{Slot}
 use Rattle.slot.specs.Load.{load_of}
-use Rattle.slot.specs.Answers.{settled}
 use Rattle.rack.specs.declared.Rack.{Rack}
-use Rattle.rack.specs.declared.RackAnswer.{RackAnswer}
 use Rattle.rack.specs.Ports.{most_ports, nobody, at, ports_in, in_rack, place_of, loads, others, put}
-use Rattle.rack.specs.Steps.{Happening, answer_at, own_answer, turned, refused_by, if_in_rack, step}
+use Rattle.rack.specs.Steps.{Happening, answer_at, turned, refused_by, step}
 use Rattle.rack.proofs.Loads.{place_in, place_in_slots, all_but_this}
 use Rattle.setup.specs.declared.Started.{Started}
 use Rattle.setup.specs.SetUps.{accepted_set_up}
 use Rattle.night.specs.declared.Found.{Found}
-use Rattle.night.specs.Fields.{tag_of, length_of, size_of, is_whole}
-use Rattle.night.specs.Events.{kind_of, next_of}
+use Rattle.night.specs.Fields.{size_of, is_whole}
+use Rattle.night.specs.Events.{next_of}
 use Rattle.night.specs.SetUps.{set_up_in}
 use Rattle.tally.specs.declared.Tally.{Tally}
 use Rattle.tally.specs.Counts.{told, set_up_told}
 use Rattle.playing.specs.declared.Played.{Played}
-use Rattle.playing.specs.Nights.{begun, state_at, held_at, answered, event_done, rack_after, is_accepted, set_up_done, field_done, is_readable, night_in, is_event, is_set_up, number_in, happening_in, stepped_by}
+use Rattle.playing.specs.Nights.{begun, answered, event_done, rack_after, is_accepted, set_up_done, field_done, is_readable, night_in, is_event, is_set_up, number_in, happening_in, stepped_by}
 use Rattle.playing.specs.Meeting.{held_by, Small}
 use Rattle.playing.proofs.Sums.{rack_in, weighs, small_still, sum_still}
 

@@ -1,18 +1,16 @@
 -- The sum of the loads, kept through a change of one port. Assumes nothing.
-use Prim.Native.Nat.{ℕ, zero, suc, ◌+◌, ◌-◌, ◌*◌, ◌<◌, ◌≤◌, min}
-use native.Mathlib.Numerals.{add-one}
+use Prim.Native.Nat.{ℕ, zero, suc, ◌+◌, ◌-◌, ◌*◌, ◌<◌, ◌≤◌}
 use native.Mathlib.Omega.{arith}
 use native.Mathlib.Decide.{ℕ_discrete}
-use mathlib.Core.Path.{◌≡◌, refl, sym, ap, ◌∙◌}
+use mathlib.Core.Path.{◌≡◌, refl, sym, ap}
 use mathlib.Core.List.{List}
-use lib.ListN.{length, get_or, set}
+use lib.ListN.{length, set}
 use lib.Seq.{get_or-set_same, get_or-set_other}
 use Rattle.slot.specs.declared.Slot.{Slot}
 use Rattle.slot.specs.Load.{load_of}
 use Rattle.rack.specs.declared.Rack.{Rack}
-use Rattle.rack.specs.Ports.{most_ports, nobody, at, ports_in, total, loads, others}
+use Rattle.rack.specs.Ports.{most_ports, nobody, at, ports_in, total, loads}
 use Rattle.rack.proofs.Totals.{total_more, total_part, total_change}
-use Rattle.rack.proofs.Loads.{others_and_this}
 use Rattle.playing.specs.Meeting.{Small}
 
 -- what the loop holds, as a rack

@@ -12,7 +12,6 @@ use Rattle.offers.specs.declared.Fit.{Fit}
 use Rattle.channel.specs.Channel.{is_repeat}
 use Rattle.source.specs.declared.Timer.TheVariants.{NoTimer}
 use Rattle.source.specs.States.{same, listens}
-use Rattle.port.specs.declared.GoodCrc.{GoodCrc}
 use Rattle.port.specs.declared.Port.{Port}
 use Rattle.port.specs.Memory.{state_of}
 use Rattle.port.specs.Steps.{nothing_done}

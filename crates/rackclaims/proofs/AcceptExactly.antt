@@ -20,7 +20,7 @@ use Rattle.slot.specs.Load.{load_of}
 use Rattle.slot.specs.Answers.{judged}
 use Rattle.rack.specs.declared.Rack.{Rack}
 use Rattle.rack.specs.Ports.{at, ports_in, others, power_rule}
-use Rattle.rack.specs.Steps.{Happening, event, packet, new_offer, call_of, own_answer, answer_at, step}
+use Rattle.rack.specs.Steps.{Happening, event, packet, new_offer, call_of, own_answer, answer_at}
 use Rattle.rack.proofs.Loads.{others_and_this}
 use Rattle.setup.specs.declared.SetUp.{SetUp}
 use Rattle.setup.specs.SetUps.{setting, good_set_up}

@@ -17,7 +17,7 @@ use Rattle.portclaims.specs.Repeats.{only_good_crc, aside}
 use Rattle.portclaims.proofs.RepeatChangesNothing.{repeat_changes_nothing}
 use Rattle.rack.specs.declared.Rack.{Rack}
 use Rattle.rack.specs.Ports.{at}
-use Rattle.rack.specs.Steps.{packet, own_answer, answer_at, turned, step}
+use Rattle.rack.specs.Steps.{packet, own_answer, answer_at, turned}
 use Rattle.rackclaims.proofs.Neighbours.{put_same, answers_by_itself}
 use Rattle.rackclaims.proofs.RefusalsInOrder.{never_twice}
 

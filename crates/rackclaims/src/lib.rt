@@ -1,4 +1,3 @@
 // What the rack's demands say in plain terms: no code, only claims over the rack's definitions, each in
 // a file of `proofs/` that is named after what it claims. docs/PROMISES.md leads here.
 #![tactic(auto)]
-

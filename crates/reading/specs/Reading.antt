@@ -1,7 +1,6 @@
 -- "The packet" and "Refusal numbers": what reading a packet gives. Reading tries 1, 2, 3 (extended under 4), 4, 3.
 use Rattle.std.specs.Prelude.{ℕ, ◌+◌, ◌*◌, ◌≡◌, Bool, not, ◌&&◌, List, [], ltb, eqb, length, drop}
 use Rattle.std.specs.Borrow.{Bor}
-use Rattle.ground.specs.declared.Refusal.{Refusal}
 use Rattle.ground.specs.declared.Refusal.TheVariants.{TooShort, TooLong, WrongLength, NotChunked}
 use Rattle.ground.specs.declared.Verdict.{Verdict}
 use Rattle.ground.specs.declared.Verdict.TheVariants.{Fine, Refused}

@@ -1,4 +1,3 @@
-use borrow.Author.Rules.{rules}
 use mathlib.Core.Path.{◌∙◌}
 use Rattle.fields.proofs.Answers.{nothing_left, something_left}
 use Rattle.fields.proofs.ending_of.Goals as goal

@@ -1,4 +1,3 @@
-use borrow.Author.Rules.{rules}
 use mathlib.Core.Path.{◌∙◌}
 use Rattle.fields.proofs.Answers.{as_found}
 use Rattle.fields.proofs.first.Goals as goal

@@ -2,7 +2,7 @@
 use borrow.Author.Rules.{rules}
 use native.Mathlib.Omega.{arith}
 use mathlib.Core.Path.{refl}
-use Rattle.fields.proofs.Keeping.{still_long, one_more, all, to_the_end}
+use Rattle.fields.proofs.Keeping.{one_more, all, to_the_end}
 use Rattle.fields.proofs.keep.Goals as goal
 
 pub loop-from-init : goal.loop-from-init

@@ -1,9 +1,6 @@
 -- `fields::keep` meets its contract: the bytes that were passed stand at the front. The measure: the bytes that are left.
-use borrow.Author.Rules.{rules}
 use Prim.Native.Nat.{◌-◌}
-use native.Mathlib.Omega.{arith}
-use mathlib.Core.Path.{refl}
-use Rattle.fields.proofs.Keeping.{Moved, still_long, one_more, all, to_the_end}
+use Rattle.fields.proofs.Keeping.{Moved}
 use Rattle.fields.proofs.keep.Given as goal
 
 abbrev pub invariant-loop-from : goal.invariant-loop-from

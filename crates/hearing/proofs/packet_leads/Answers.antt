@@ -1,4 +1,3 @@
-use borrow.Author.Rules.{rules}
 use Rattle.hearing.specs.Packets.{on_packet}
 use Rattle.hearing.proofs.packet_leads.Goals as goal
 

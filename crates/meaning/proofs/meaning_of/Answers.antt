@@ -1,4 +1,3 @@
-use borrow.Author.Rules.{rules}
 use mathlib.Core.Path.{sym, ◌∙◌}
 use Rattle.meaning.proofs.Table.{entry_is, past}
 use Rattle.meaning.proofs.meaning_of.Goals as goal

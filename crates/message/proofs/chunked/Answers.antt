@@ -1,4 +1,3 @@
-use borrow.Author.Rules.{rules}
 use Rattle.message.specs.Bytes.{is_chunked}
 use Rattle.message.proofs.chunked.Goals as goal
 

@@ -1,4 +1,3 @@
-use borrow.Author.Rules.{rules}
 use mathlib.Core.Path.{refl}
 use Rattle.message.specs.Header.{objects_of}
 use Rattle.message.proofs.object_count.Goals as goal

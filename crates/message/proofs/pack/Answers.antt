@@ -1,5 +1,4 @@
 -- `message::pack` lays each field into its bits.
-use borrow.Author.Rules.{rules}
 use mathlib.Core.Bool.{Bool, true, false}
 use mathlib.Core.Path.{◌≡◌, refl}
 use Prim.Native.Nat.{◌%◌}
@@ -16,5 +15,3 @@ unfolding header_of
 returns c =
     let start = c in
     rw (c.wide-6.ensures.0, c.wide-5.ensures.0, c.wide-4.ensures.0, c.wide-3.ensures.0, c.wide-2.ensures.0, c.wide.ensures.0, c.bit.ensures.0, bit_fits start.args.f.extended, mul-one (start.args.f.message_type % 32))
-
-

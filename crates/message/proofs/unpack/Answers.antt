@@ -1,4 +1,3 @@
-use borrow.Author.Rules.{rules}
 use native.Mathlib.Nat.{div-one}
 use Rattle.message.specs.Header.{fields_of}
 use Rattle.message.proofs.unpack.Goals as goal

@@ -1,4 +1,3 @@
-use borrow.Author.Rules.{rules}
 use Rattle.message.specs.Bytes.{word_of}
 use Rattle.std.proofs.lemmas.Grind.{common_steps}
 use Rattle.std.proofs.Common.{arith}

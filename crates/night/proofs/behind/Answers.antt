@@ -1,4 +1,3 @@
-use borrow.Author.Rules.{rules}
 use native.Mathlib.Omega.{arith}
 use mathlib.Core.Path.{refl}
 use Rattle.night.proofs.Fields.{behind_is, start_is, cut_behind, cut_start, none_behind, no_start}

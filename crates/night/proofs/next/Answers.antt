@@ -1,4 +1,3 @@
-use borrow.Author.Rules.{rules}
 use borrow.Author.Tests.{le-leb, lt-leb}
 use Rattle.night.specs.Events.{next_of}
 use Rattle.night.specs.Fields.{tag_of, is_whole}

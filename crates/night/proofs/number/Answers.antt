@@ -1,4 +1,3 @@
-use borrow.Author.Rules.{rules}
 use Rattle.night.specs.Fields.{number_at}
 use Rattle.night.proofs.number.Goals as goal
 

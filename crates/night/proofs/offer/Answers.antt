@@ -1,4 +1,3 @@
-use borrow.Author.Rules.{rules}
 use Rattle.night.specs.Events.{offer_of}
 use Rattle.night.proofs.offer.Goals as goal
 

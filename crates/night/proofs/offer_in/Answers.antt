@@ -1,4 +1,3 @@
-use borrow.Author.Rules.{rules}
 use Rattle.night.specs.Fields.{offer_in}
 use Rattle.night.proofs.offer_in.Goals as goal
 

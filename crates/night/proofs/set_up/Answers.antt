@@ -1,4 +1,3 @@
-use borrow.Author.Rules.{rules}
 use mathlib.Core.Path.{◌∙◌}
 use Rattle.night.specs.SetUps.{set_up_in}
 use Rattle.night.proofs.set_up.Goals as goal

@@ -1,5 +1,3 @@
-use borrow.Author.Rules.{rules}
-use native.Mathlib.Omega.{arith}
 use Rattle.night.specs.Fields.{size_of}
 use Rattle.night.proofs.size.Goals as goal
 

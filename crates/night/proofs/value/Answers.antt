@@ -1,4 +1,3 @@
-use borrow.Author.Rules.{rules}
 use native.Mathlib.Omega.{arith}
 use Rattle.night.specs.Fields.{size_of}
 use Rattle.night.proofs.Fields.{value_is, cut_value}

@@ -1,6 +1,4 @@
-use borrow.Author.Rules.{rules}
 use Rattle.offers.specs.Requests.{asked}
-use Rattle.offers.proofs.Laws.{product, voltage<, operating<}
 use Rattle.offers.proofs.asked_of.Goals as goal
 
 pub returns : goal.returns

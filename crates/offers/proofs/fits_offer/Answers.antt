@@ -1,4 +1,3 @@
-use borrow.Author.Rules.{rules}
 use Rattle.offers.specs.Requests.{fits}
 use Rattle.offers.proofs.fits_offer.Goals as goal
 

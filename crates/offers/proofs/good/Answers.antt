@@ -1,4 +1,3 @@
-use borrow.Author.Rules.{rules}
 use borrow.Author.Tests.{le-leb, lt-leb, ne_eqb}
 use Rattle.offers.specs.Offers.{good_offer}
 use Rattle.offers.proofs.good.Goals as goal

@@ -1,6 +1,4 @@
-use borrow.Author.Rules.{rules}
 use Rattle.offers.specs.Offers.{good_object}
-use Rattle.offers.proofs.Laws.{product, voltage<, current<}
 use Rattle.offers.proofs.good_object.Goals as goal
 
 pub returns : goal.returns

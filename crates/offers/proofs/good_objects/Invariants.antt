@@ -1,11 +1,8 @@
 -- what is left to be tested decides
-use borrow.Author.Rules.{rules}
 use Prim.Native.Nat.{◌≤◌, ◌-◌}
-use native.Mathlib.Omega.{arith}
-use mathlib.Core.Path.{◌≡◌, sym, ◌∙◌}
-use lib.ListN.{take, drop, length}
+use mathlib.Core.Path.{◌≡◌}
+use lib.ListN.{take, drop}
 use Rattle.offers.specs.Offers.{good_from}
-use Rattle.offers.proofs.Laws.{go_on, stop, all_done}
 use Rattle.offers.proofs.good_objects.Given as goal
 
 abbrev pub invariant-loop-i : goal.invariant-loop-i

@@ -1,4 +1,3 @@
-use borrow.Author.Rules.{rules}
 use Rattle.offers.specs.Requests.{is_honoured}
 use Rattle.offers.proofs.honoured.Goals as goal
 

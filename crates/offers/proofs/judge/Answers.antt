@@ -1,4 +1,3 @@
-use borrow.Author.Rules.{rules}
 use Rattle.offers.specs.Requests.{fit_of}
 use Rattle.offers.proofs.judge.Goals as goal
 

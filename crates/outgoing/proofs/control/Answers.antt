@@ -1,4 +1,3 @@
-use borrow.Author.Rules.{rules}
 use Rattle.outgoing.specs.Packets.{control_of}
 use Rattle.outgoing.proofs.control.Goals as goal
 

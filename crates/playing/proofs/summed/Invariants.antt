@@ -1,13 +1,8 @@
 -- `playing::summed` meets its contract: the loop has the load of the ports passed. Assumes nothing.
-use borrow.Author.Rules.{rules}
 use Prim.Native.Nat.{ℕ, ◌<◌, ◌≤◌, ◌*◌, ◌-◌}
-use native.Mathlib.Omega.{arith}
-use native.Mathlib.Nat.{not-suc-le-zero}
-use mathlib.Core.Path.{◌≡◌, refl}
+use mathlib.Core.Path.{◌≡◌}
 use Rattle.slot.specs.Load.{load_of}
-use Rattle.rack.specs.Ports.{at, ports_in, total, loads}
-use Rattle.rack.proofs.Loads.{load_all}
-use Rattle.playing.proofs.Sums.{more, small_more}
+use Rattle.rack.specs.Ports.{at, total}
 use Rattle.playing.proofs.summed.Given as goal
 
 abbrev pub invariant-loop-i : goal.invariant-loop-i

@@ -1,10 +1,8 @@
-use borrow.Author.Rules.{rules}
 use mathlib.Core.Path.{refl, sym, ◌∙◌}
 use native.Mathlib.Omega.{arith}
 use Rattle.ground.proofs.Parts.{rest}
 use Rattle.reading.specs.Reading.{part_start, part_of}
 use Rattle.reading.proofs.Fine.{readable}
-use Rattle.std.proofs.lemmas.Grind.{common_steps}
 use Rattle.reading.proofs.objects.Goals as goal
 
 pub returns-then-s-ge2 : goal.returns-then-s-ge2

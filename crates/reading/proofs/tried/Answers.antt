@@ -1,4 +1,3 @@
-use borrow.Author.Rules.{rules}
 use mathlib.Core.Path.{◌∙◌}
 use Rattle.reading.specs.Reading.{reading_tried}
 use Rattle.reading.proofs.tried.Goals as goal

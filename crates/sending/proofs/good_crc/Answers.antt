@@ -1,4 +1,3 @@
-use borrow.Author.Rules.{rules}
 use mathlib.Core.Path.{◌∙◌}
 use Rattle.message.specs.Bytes.{bytes_of}
 use Rattle.sending.proofs.good_crc.Goals as goal

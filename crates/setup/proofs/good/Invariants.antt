@@ -1,11 +1,8 @@
 -- `setup::good` meets its contract: the ports passed are good, and their shares are summed. Assumes nothing.
-use borrow.Author.Rules.{rules}
 use Prim.Native.Nat.{◌≤◌, ◌*◌, ◌-◌}
-use native.Mathlib.Omega.{arith}
-use mathlib.Core.Path.{◌≡◌, sym, ◌∙◌}
+use mathlib.Core.Path.{◌≡◌}
 use mathlib.Core.Bool.{true}
 use Rattle.setup.specs.SetUps.{setting, good_setting, everywhere, shares}
-use Rattle.setup.proofs.Settings.{too_few, too_many, one_is_bad, everywhere_more, shares_more, all_are_good}
 use Rattle.setup.proofs.good.Given as goal
 
 abbrev pub invariant-loop-i : goal.invariant-loop-i

@@ -1,4 +1,3 @@
-use borrow.Author.Rules.{rules}
 use Rattle.setup.specs.SetUps.{good_setting}
 use Rattle.setup.proofs.good_setting.Goals as goal
 

@@ -1,4 +1,3 @@
-use borrow.Author.Rules.{rules}
 use Rattle.setup.specs.SetUps.{accepted_set_up}
 use Rattle.setup.proofs.set_up.Goals as goal
 

@@ -1,10 +1,8 @@
 -- `setup::slots_of` meets its contract: the loop has filled the slots passed. Assumes nothing.
 use borrow.Author.Rules.{rules}
-use Prim.Native.Nat.{◌≤◌, ◌-◌}
 use native.Mathlib.Omega.{arith}
 use mathlib.Core.Path.{◌≡◌, ◌∙◌}
-use mathlib.Core.List.{map}
-use lib.ListN.{take, length, length-set}
+use lib.ListN.{length, length-set}
 use Rattle.rack.specs.Ports.{most_ports}
 use Rattle.rack.proofs.Loads.{long}
 use Rattle.setup.specs.SetUps.{slot_of, no_setting}

@@ -1,14 +1,10 @@
 -- `setup::slots_of` meets its contract: the loop has filled the slots passed. Assumes nothing.
-use borrow.Author.Rules.{rules}
 use Prim.Native.Nat.{◌≤◌, ◌-◌}
-use native.Mathlib.Omega.{arith}
-use mathlib.Core.Path.{◌≡◌, ◌∙◌}
+use mathlib.Core.Path.{◌≡◌}
 use mathlib.Core.List.{map}
-use lib.ListN.{take, length, length-set}
+use lib.ListN.{take, length}
 use Rattle.rack.specs.Ports.{most_ports}
-use Rattle.rack.proofs.Loads.{long}
-use Rattle.setup.specs.SetUps.{slot_of, no_setting}
-use Rattle.setup.proofs.Filled.{filled_more, filled}
+use Rattle.setup.specs.SetUps.{slot_of}
 use Rattle.setup.proofs.slots_of.Given as goal
 
 abbrev pub invariant-loop-i : goal.invariant-loop-i

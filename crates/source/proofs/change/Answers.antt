@@ -1,4 +1,3 @@
-use borrow.Author.Rules.{rules}
 use Rattle.source.specs.Changes.{change_of}
 use Rattle.source.proofs.change.Goals as goal
 

@@ -1,4 +1,3 @@
-use borrow.Author.Rules.{rules}
 use Rattle.stimuli.specs.Leads.{leads}
 use Rattle.stimuli.proofs.leads.Goals as goal
 

@@ -1,4 +1,3 @@
-use borrow.Author.Rules.{rules}
 use Rattle.tally.specs.Checksum.{checked}
 use Rattle.tally.proofs.checked.Goals as goal
 

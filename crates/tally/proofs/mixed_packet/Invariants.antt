@@ -1,12 +1,8 @@
 -- `tally::mixed_packet` meets its contract: the loop has taken in the bytes passed, and what is left of the message is still to come.
-use borrow.Author.Rules.{rules}
-use native.Mathlib.Omega.{arith}
-use borrow.Author.Tests.{ltb-false}
 use Prim.Native.Nat.{◌-◌}
-use mathlib.Core.Path.{◌≡◌, ◌∙◌}
-use lib.ListN.{take, drop, length, length-take}
-use Rattle.tally.specs.Checksum.{mixed_all, mixed_packet}
-use Rattle.tally.proofs.Mixing.{one_more_in, all_in}
+use mathlib.Core.Path.{◌≡◌}
+use lib.ListN.{take, drop}
+use Rattle.tally.specs.Checksum.{mixed_all}
 use Rattle.tally.proofs.mixed_packet.Given as goal
 
 abbrev pub invariant-loop-i : goal.invariant-loop-i

@@ -1,10 +1,9 @@
 -- `text::put_bytes` types all the bytes. The loop's invariant: what is left to type, typed from here, is what was left at the start.
-use Prim.Native.Nat.{◌<◌, ◌≤◌, ◌-◌}
+use Prim.Native.Nat.{◌<◌, ◌≤◌}
 use borrow.Author.Rules.{rules}
 use native.Mathlib.Omega.{arith}
-use mathlib.Core.Path.{◌≡◌, refl, sym, ◌∙◌}
-use lib.ListN.{length, drop}
-use Rattle.text.specs.Text.{line, typed_rest}
+use mathlib.Core.Path.{refl, sym, ◌∙◌}
+use lib.ListN.{length}
 use Rattle.text.proofs.Rest.{nothing, begun, gone_on, ended}
 use Rattle.text.proofs.put_bytes.Goals as goal
 

@@ -1,11 +1,8 @@
 -- `text::put_bytes` types all the bytes. The loop's invariant: what is left to type, typed from here, is what was left at the start.
-use Prim.Native.Nat.{◌<◌, ◌≤◌, ◌-◌}
-use borrow.Author.Rules.{rules}
-use native.Mathlib.Omega.{arith}
-use mathlib.Core.Path.{◌≡◌, refl, sym, ◌∙◌}
+use Prim.Native.Nat.{◌≤◌, ◌-◌}
+use mathlib.Core.Path.{◌≡◌}
 use lib.ListN.{length, drop}
 use Rattle.text.specs.Text.{line, typed_rest}
-use Rattle.text.proofs.Rest.{nothing, begun, gone_on, ended}
 use Rattle.text.proofs.put_bytes.Given as goal
 
 abbrev pub invariant-loop-i : goal.invariant-loop-i

@@ -2,7 +2,7 @@
 use Prim.Native.Nat.{◌-◌, ◌<◌, ◌≤◌}
 use borrow.Author.Rules.{rules}
 use native.Mathlib.Omega.{arith}
-use mathlib.Core.Path.{◌≡◌, refl, ◌∙◌}
+use mathlib.Core.Path.{refl, ◌∙◌}
 use lib.ListN.{length}
 use Rattle.text.proofs.Digits.{ten, first, further, full}
 use Rattle.text.proofs.put_decimal.Goals as goal

@@ -1,12 +1,9 @@
 -- `text::put_decimal` types the digits. The loop's invariant: what is left of the number, in front of the digits so far, is the whole of it.
-use Prim.Native.Nat.{◌-◌, ◌<◌, ◌≤◌}
-use borrow.Author.Rules.{rules}
-use native.Mathlib.Omega.{arith}
-use mathlib.Core.Path.{◌≡◌, refl, ◌∙◌}
+use Prim.Native.Nat.{◌≤◌}
+use mathlib.Core.Path.{◌≡◌}
 use mathlib.Core.List.{[]}
 use lib.ListN.{length, drop}
 use Rattle.text.specs.Text.{digits_before}
-use Rattle.text.proofs.Digits.{ten, first, further, full}
 use Rattle.text.proofs.put_decimal.Given as goal
 
 abbrev pub invariant-loop-i : goal.invariant-loop-i

@@ -1,4 +1,3 @@
-use borrow.Author.Rules.{rules}
 use Rattle.message.specs.Bytes.{bytes_of}
 use Rattle.ground.proofs.Laid.{over_back}
 use Rattle.writing.proofs.put_at.Goals as goal

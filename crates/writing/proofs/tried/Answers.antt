@@ -1,4 +1,3 @@
-use borrow.Author.Rules.{rules}
 use mathlib.Core.Path.{◌∙◌}
 use Rattle.writing.specs.Writing.{writing_tried}
 use Rattle.writing.proofs.tried.Goals as goal

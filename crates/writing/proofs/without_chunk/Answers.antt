@@ -1,4 +1,3 @@
-use borrow.Author.Rules.{rules}
 use mathlib.Core.Bool.{or-false}
 use Rattle.ground.specs.Refusals.{any_of}
 use Rattle.writing.proofs.without_chunk.Goals as goal

@@ -1,6 +1,4 @@
-use borrow.Author.Rules.{rules}
 use mathlib.Core.Path.{sym, ◌∙◌}
-use native.Mathlib.Omega.{arith}
 use Rattle.message.proofs.Bytes.{length_bytes}
 use Rattle.writing.proofs.Fine.{writable}
 use Rattle.writing.proofs.write.Goals as goal

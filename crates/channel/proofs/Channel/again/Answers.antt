@@ -1,4 +1,3 @@
-use borrow.Author.Rules.{rules}
 use Rattle.channel.specs.Channel.{again}
 use Rattle.channel.proofs.Channel.again.Goals as goal
 

@@ -1,4 +1,3 @@
-use borrow.Author.Rules.{rules}
 use Rattle.channel.specs.Channel.{ended}
 use Rattle.channel.proofs.Channel.ended.Goals as goal
 

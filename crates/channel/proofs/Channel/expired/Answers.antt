@@ -1,4 +1,3 @@
-use borrow.Author.Rules.{rules}
 use mathlib.Core.Path.{◌∙◌}
 use Rattle.channel.specs.Outcomes.{on_expiry}
 use Rattle.channel.proofs.Channel.expired.Goals as goal

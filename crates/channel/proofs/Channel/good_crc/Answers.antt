@@ -1,4 +1,3 @@
-use borrow.Author.Rules.{rules}
 use mathlib.Core.Path.{◌∙◌}
 use Rattle.channel.specs.Outcomes.{on_good_crc}
 use Rattle.channel.proofs.Channel.good_crc.Goals as goal

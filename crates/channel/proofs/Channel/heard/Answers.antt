@@ -1,4 +1,3 @@
-use borrow.Author.Rules.{rules}
 use Rattle.channel.specs.Channel.{heard}
 use Rattle.channel.proofs.Channel.heard.Goals as goal
 

@@ -1,4 +1,3 @@
-use borrow.Author.Rules.{rules}
 use Rattle.channel.specs.Channel.{pending_id}
 use Rattle.channel.proofs.Channel.pending_id.Goals as goal
 

@@ -1,4 +1,3 @@
-use borrow.Author.Rules.{rules}
 use Rattle.channel.specs.Channel.{is_repeat}
 use Rattle.channel.proofs.Channel.repeats.Goals as goal
 

@@ -1,4 +1,3 @@
-use borrow.Author.Rules.{rules}
 use mathlib.Core.Path.{◌∙◌}
 use Rattle.port.specs.Calls as Port
 use Rattle.fields.proofs.PortAlone.{as_found}

@@ -1,10 +1,7 @@
 -- `night::setups::group_in` meets its contract: what the whole value says is what the rest of it says of the set-up so far. Assumes nothing.
 use borrow.Author.Rules.{rules}
-use Prim.Native.Nat.{◌≤◌}
 use native.Mathlib.Omega.{arith}
-use mathlib.Core.Path.{◌≡◌, sym, ◌∙◌}
-use lib.ListN.{length, drop}
-use Rattle.night.specs.SetUps.{no_set_up, group_in}
+use mathlib.Core.Path.{sym, ◌∙◌}
 use Rattle.night.proofs.Groups.{ended, at_supply, at_neither, at_port_lem, within}
 use Rattle.night.proofs.setups.group_in.Goals as goal
 

@@ -1,12 +1,8 @@
 -- `night::setups::group_in` meets its contract: what the whole value says is what the rest of it says of the set-up so far. Assumes nothing.
-use borrow.Author.Rules.{rules}
-use borrow.Author.Tests.{not-true, not-false}
 use Prim.Native.Nat.{◌≤◌}
-use native.Mathlib.Omega.{arith}
-use mathlib.Core.Path.{◌≡◌, sym, ◌∙◌}
+use mathlib.Core.Path.{◌≡◌}
 use lib.ListN.{length, drop}
 use Rattle.night.specs.SetUps.{no_set_up, group_in}
-use Rattle.night.proofs.Groups.{ended, at_supply, at_neither, at_port_lem, within}
 use Rattle.night.proofs.setups.group_in.Given as goal
 
 abbrev pub invariant-loop-left : goal.invariant-loop-left

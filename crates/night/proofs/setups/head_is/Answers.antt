@@ -1,4 +1,3 @@
-use borrow.Author.Rules.{rules}
 use Rattle.night.specs.Fields.{tag_of}
 use Rattle.night.specs.SetUps.{head_is}
 use Rattle.night.proofs.setups.head_is.Goals as goal

@@ -1,4 +1,3 @@
-use borrow.Author.Rules.{rules}
 use Rattle.night.specs.Fields.{tag_of}
 use Rattle.night.specs.SetUps.{is_port}
 use Rattle.night.proofs.setups.is_port.Goals as goal

@@ -1,4 +1,3 @@
-use borrow.Author.Rules.{rules}
 use borrow.Author.Tests.{le-leb, lt-leb}
 use Rattle.night.specs.SetUps.{is_setting}
 use Rattle.night.proofs.setups.is_setting.Goals as goal

@@ -1,4 +1,3 @@
-use borrow.Author.Rules.{rules}
 use Rattle.night.specs.SetUps.{is_supply}
 use Rattle.night.proofs.setups.is_supply.Goals as goal
 

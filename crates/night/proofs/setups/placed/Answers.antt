@@ -1,4 +1,3 @@
-use borrow.Author.Rules.{rules}
 use borrow.Author.Tests.{lt-ltb, le-ltb}
 use Rattle.night.specs.SetUps.{placed}
 use Rattle.night.proofs.setups.placed.Goals as goal

@@ -1,4 +1,3 @@
-use borrow.Author.Rules.{rules}
 use Rattle.night.specs.SetUps.{setting_of}
 use Rattle.night.proofs.setups.setting_of.Goals as goal
 

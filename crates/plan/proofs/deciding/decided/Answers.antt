@@ -1,4 +1,3 @@
-use borrow.Author.Rules.{rules}
 use mathlib.Core.Path.{◌≡◌, refl, ◌∙◌}
 use Rattle.port.specs.declared.Port.{Port}
 use Rattle.plan.specs.declared.Cue.{Cue}

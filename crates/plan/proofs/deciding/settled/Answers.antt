@@ -1,4 +1,3 @@
-use borrow.Author.Rules.{rules}
 use mathlib.Core.Path.{◌∙◌}
 use Rattle.plan.specs.Plans.{settled_plan}
 use Rattle.plan.proofs.deciding.settled.Goals as goal

@@ -1,4 +1,3 @@
-use borrow.Author.Rules.{rules}
 use mathlib.Core.Path.{◌∙◌}
 use Rattle.plan.specs.Plans.{performed}
 use Rattle.plan.proofs.doing.performed.Goals as goal

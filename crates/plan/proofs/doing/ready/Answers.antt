@@ -1,5 +1,4 @@
 -- the parts, made one by one, are those of the port that the rules leave
-use borrow.Author.Rules.{rules}
 use mathlib.Core.Path.{◌≡◌, refl}
 use mathlib.Core.Bool.{Bool, true, false, ◌||◌}
 use Rattle.offers.specs.declared.Asked.{Asked}

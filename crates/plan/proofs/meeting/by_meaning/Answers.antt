@@ -1,4 +1,3 @@
-use borrow.Author.Rules.{rules}
 use mathlib.Core.Path.{◌∙◌}
 use Rattle.plan.specs.Plans.{met_meaning}
 use Rattle.plan.proofs.meeting.by_meaning.Goals as goal

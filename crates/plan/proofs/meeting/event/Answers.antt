@@ -1,4 +1,3 @@
-use borrow.Author.Rules.{rules}
 use mathlib.Core.Path.{◌∙◌}
 use Rattle.plan.specs.Plans.{met_event}
 use Rattle.plan.proofs.meeting.event.Goals as goal

@@ -1,4 +1,3 @@
-use borrow.Author.Rules.{rules}
 use mathlib.Core.Path.{◌∙◌}
 use Rattle.plan.specs.Plans.{met_message}
 use Rattle.plan.proofs.meeting.message.Goals as goal

@@ -1,4 +1,3 @@
-use borrow.Author.Rules.{rules}
 use Rattle.plan.specs.Plans.{met_offer}
 use Rattle.plan.proofs.meeting.new_offer.Goals as goal
 

@@ -1,4 +1,3 @@
-use borrow.Author.Rules.{rules}
 use mathlib.Core.Path.{◌∙◌}
 use Rattle.playing.proofs.Meets.{as_stepped}
 use Rattle.playing.proofs.turns.stepped.Goals as goal

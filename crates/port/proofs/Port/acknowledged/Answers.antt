@@ -1,4 +1,3 @@
-use borrow.Author.Rules.{rules}
 use mathlib.Core.Path.{◌∙◌}
 use Rattle.port.specs.Steps.{acknowledged}
 use Rattle.port.proofs.Port.acknowledged.Goals as goal

@@ -1,4 +1,3 @@
-use borrow.Author.Rules.{rules}
 use Rattle.port.specs.Packets.{by_meaning}
 use Rattle.port.proofs.Port.by_meaning.Goals as goal
 

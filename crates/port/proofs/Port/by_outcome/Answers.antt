@@ -1,4 +1,3 @@
-use borrow.Author.Rules.{rules}
 use Rattle.port.specs.Steps.{by_outcome}
 use Rattle.port.proofs.Port.by_outcome.Goals as goal
 

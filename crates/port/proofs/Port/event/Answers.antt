@@ -1,4 +1,3 @@
-use borrow.Author.Rules.{rules}
 use mathlib.Core.Path.{◌∙◌}
 use Rattle.port.specs.Steps.{event_of}
 use Rattle.port.proofs.Port.event.Goals as goal

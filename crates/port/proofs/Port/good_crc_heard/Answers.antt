@@ -1,4 +1,3 @@
-use borrow.Author.Rules.{rules}
 use mathlib.Core.Path.{◌∙◌}
 use Rattle.port.specs.Packets.{good_crc_heard}
 use Rattle.port.proofs.Port.good_crc_heard.Goals as goal

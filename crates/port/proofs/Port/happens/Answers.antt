@@ -1,5 +1,3 @@
-use borrow.Author.Rules.{rules}
-use mathlib.Core.Path.{◌∙◌}
 use Rattle.port.specs.Steps.{happens}
 use Rattle.port.proofs.Port.happens.Goals as goal
 

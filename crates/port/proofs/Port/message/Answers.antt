@@ -1,4 +1,3 @@
-use borrow.Author.Rules.{rules}
 use Rattle.port.specs.Packets.{message_of}
 use Rattle.port.proofs.Port.message.Goals as goal
 

@@ -1,5 +1,3 @@
-use borrow.Author.Rules.{rules}
-use mathlib.Core.Path.{◌∙◌}
 use Rattle.port.specs.Steps.{new_offer_of}
 use Rattle.port.proofs.Port.new_offer.Goals as goal
 

@@ -1,4 +1,3 @@
-use borrow.Author.Rules.{rules}
 use Rattle.port.specs.Packets.{new_packet}
 use Rattle.port.proofs.Port.new_packet.Goals as goal
 

@@ -1,4 +1,3 @@
-use borrow.Author.Rules.{rules}
 use mathlib.Core.Path.{◌∙◌}
 use Rattle.port.specs.Steps.{nothing_done}
 use Rattle.port.proofs.Port.nothing_done.Goals as goal

@@ -1,4 +1,3 @@
-use borrow.Author.Rules.{rules}
 use Rattle.port.specs.Entering.{enter}
 use Rattle.port.proofs.Port.offered.Goals as goal
 

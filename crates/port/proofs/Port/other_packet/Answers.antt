@@ -1,4 +1,3 @@
-use borrow.Author.Rules.{rules}
 use Rattle.port.specs.Packets.{other_packet}
 use Rattle.port.proofs.Port.other_packet.Goals as goal
 

@@ -1,4 +1,3 @@
-use borrow.Author.Rules.{rules}
 use mathlib.Core.Path.{◌∙◌}
 use Rattle.port.specs.Packets.{packet_of}
 use Rattle.port.proofs.Port.packet.Goals as goal

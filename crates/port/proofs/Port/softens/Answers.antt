@@ -1,4 +1,3 @@
-use borrow.Author.Rules.{rules}
 use mathlib.Core.Path.{◌∙◌}
 use Rattle.port.specs.Entering.{enter}
 use Rattle.port.proofs.Port.softens.Goals as goal

@@ -1,4 +1,3 @@
-use borrow.Author.Rules.{rules}
 use mathlib.Core.Path.{◌∙◌}
 use Rattle.port.specs.Steps.{turn}
 use Rattle.port.proofs.Port.turn.Goals as goal

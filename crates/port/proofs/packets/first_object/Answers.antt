@@ -1,4 +1,3 @@
-use borrow.Author.Rules.{rules}
 use Rattle.port.specs.Packets.{first_object}
 use Rattle.port.proofs.packets.first_object.Goals as goal
 

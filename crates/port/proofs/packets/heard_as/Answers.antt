@@ -1,4 +1,3 @@
-use borrow.Author.Rules.{rules}
 use Rattle.port.specs.Packets.{heard_as}
 use Rattle.port.proofs.packets.heard_as.Goals as goal
 

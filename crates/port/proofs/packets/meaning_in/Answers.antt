@@ -1,4 +1,3 @@
-use borrow.Author.Rules.{rules}
 use mathlib.Core.Path.{◌∙◌}
 use Rattle.port.specs.Packets.{meaning_in}
 use Rattle.port.proofs.packets.meaning_in.Goals as goal

@@ -1,4 +1,3 @@
-use borrow.Author.Rules.{rules}
 use Rattle.power.specs.Power.{changed}
 use Rattle.power.proofs.Power.changed.Goals as goal
 

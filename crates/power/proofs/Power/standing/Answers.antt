@@ -1,4 +1,3 @@
-use borrow.Author.Rules.{rules}
 use Rattle.power.specs.Power.{standing_of}
 use Rattle.power.proofs.Power.standing.Goals as goal
 

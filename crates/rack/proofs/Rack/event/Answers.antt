@@ -1,8 +1,6 @@
-use borrow.Author.Rules.{rules}
-use mathlib.Core.Path.{sym, ◌∙◌}
+use mathlib.Core.Path.{◌∙◌}
 use Rattle.port.specs.Calls as Port
 use Rattle.rack.specs.Steps.{answer_at, step}
-use Rattle.rack.proofs.Loads.{from_one, place_in, place_in_slots}
 use Rattle.rack.proofs.Rack.event.Goals as goal
 
 pub returns-then-has : goal.returns-then-has

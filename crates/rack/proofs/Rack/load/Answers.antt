@@ -1,10 +1,5 @@
 -- `rack::Rack::load` meets its contract: the loop has the load of the ports passed. Assumes nothing.
-use borrow.Author.Rules.{rules}
-use Prim.Native.Nat.{◌≤◌, ◌*◌, ◌-◌}
 use native.Mathlib.Omega.{arith}
-use mathlib.Core.Path.{◌≡◌}
-use Rattle.slot.specs.Load.{load_of}
-use Rattle.rack.specs.Ports.{at, total}
 use Rattle.rack.proofs.Loads.{load_more, load_all}
 use Rattle.rack.proofs.Rack.load.Goals as goal
 

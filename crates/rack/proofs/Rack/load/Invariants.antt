@@ -1,11 +1,8 @@
 -- `rack::Rack::load` meets its contract: the loop has the load of the ports passed. Assumes nothing.
-use borrow.Author.Rules.{rules}
 use Prim.Native.Nat.{◌≤◌, ◌*◌, ◌-◌}
-use native.Mathlib.Omega.{arith}
 use mathlib.Core.Path.{◌≡◌}
 use Rattle.slot.specs.Load.{load_of}
 use Rattle.rack.specs.Ports.{at, total}
-use Rattle.rack.proofs.Loads.{load_more, load_all}
 use Rattle.rack.proofs.Rack.load.Given as goal
 
 abbrev pub invariant-loop-i : goal.invariant-loop-i

@@ -1,4 +1,3 @@
-use borrow.Author.Rules.{rules}
 use Rattle.rack.proofs.Loads.{all_but_this, less_than_all, loads_of}
 use Rattle.rack.proofs.Rack.others.Goals as goal
 

@@ -1,5 +1,3 @@
-use borrow.Author.Rules.{rules}
-use mathlib.Core.Path.{◌∙◌}
 use Rattle.slot.specs.Answers.{settled}
 use Rattle.rack.proofs.Rack.settled.Goals as goal
 

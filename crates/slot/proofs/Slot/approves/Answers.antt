@@ -1,4 +1,3 @@
-use borrow.Author.Rules.{rules}
 use Rattle.slot.specs.Load.{approves}
 use Rattle.slot.proofs.Slot.approves.Goals as goal
 

@@ -1,4 +1,3 @@
-use borrow.Author.Rules.{rules}
 use mathlib.Core.Path.{◌∙◌}
 use Rattle.slot.specs.Answers.{judged, settled}
 use Rattle.slot.proofs.Slot.settles.Goals as goal

@@ -1,4 +1,3 @@
-use borrow.Author.Rules.{rules}
 use Rattle.tally.specs.Counts.{set_up_told}
 use Rattle.tally.proofs.Tally.set_up_told.Goals as goal
 

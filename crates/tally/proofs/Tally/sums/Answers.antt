@@ -1,4 +1,3 @@
-use borrow.Author.Rules.{rules}
 use Rattle.tally.specs.Counts.{told}
 use Rattle.tally.proofs.Tally.sums.Goals as goal
 
