@@ -6,27 +6,27 @@ mod answer;
 mod line;
 mod words;
 
-use libc::{STDIN_FILENO, STDOUT_FILENO};
 use line::Line;
+use std::io::{Read, Stdin, Stdout, Write};
 
-// Answers a line.
-fn respond(l: Line) {
-    let mut out = io::buffer();
+// Answers a line. An answer that cannot be written is lost, and the next line is gone on with.
+fn respond(mut to: Stdout, l: Line) {
+    let mut out = [0u8; 4096];
     let n = answer::answer(l, &mut out);
     if n <= 4096 {
-        io::write_all(STDOUT_FILENO, &out[0..n]);
+        let _ = to.write_all(&out[0..n]);
     }
 }
 
 // Goes through some input, answers each line that ends in it, and hands back the line that has not
 // ended.
-fn take_in(begun: Line, input: &[u8]) -> Line {
+fn take_in(to: Stdout, begun: Line, input: &[u8]) -> Line {
     let mut l = begun;
     let mut i = 0;
     while i < input.len() {
         let c = input[i];
         if c == b'\n' {
-            respond(l);
+            respond(to, l);
             l = Line::new();
         } else {
             l = l.with(c);
@@ -42,36 +42,35 @@ struct Turn {
     line: Line,
 }
 
-// Reads once; no more where the input has ended.
-fn read_once(begun: Line) -> Turn {
-    let mut input = io::large_buffer();
-    let got = libc::read(STDIN_FILENO, &mut input);
-    if got <= 0 {
+// Reads once; no more where the input has ended, or cannot be read on.
+fn read_once(mut from: Stdin, to: Stdout, begun: Line) -> Turn {
+    let mut input = [0u8; 65536];
+    let n = from.read(&mut input).unwrap_or(0);
+    if n == 0 {
         return Turn {
             more: false,
             line: begun,
         };
     }
-    let n = io::count(got, &input);
     Turn {
         more: true,
-        line: take_in(begun, &input[..n]),
+        line: take_in(to, begun, &input[..n]),
     }
 }
 
 // A proved loop has to end, and nothing says that an input does: the turns are counted down from a
 // number that no input uses up.
-fn main() {
+fn main(rt: HostRuntime) {
     let mut l = Line::new();
     let mut turns = u64::MAX;
     let mut more = true;
     while turns > 0 && more {
-        let t = read_once(l);
+        let t = read_once(rt.stdin(), rt.stdout(), l);
         l = t.line;
         more = t.more;
         turns -= 1;
     }
     if l.started {
-        respond(l);
+        respond(rt.stdout(), l);
     }
 }

@@ -9,8 +9,8 @@ mod input;
 mod table;
 
 use input::{Input, ROOM};
-use libc::STDOUT_FILENO;
 use rack::Rack;
+use std::io::{Stderr, Stdin, Stdout, Write};
 use tally::Tally;
 
 #[derive(Clone, Copy)]
@@ -43,9 +43,9 @@ fn answered(buf: &mut [u8; ROOM], t: Turn, end: usize) -> Turn {
 }
 
 // Reads once, and answers what can be answered of it.
-fn once(buf: &mut [u8; ROOM], t: Turn) -> Turn {
+fn once(from: Stdin, buf: &mut [u8; ROOM], t: Turn) -> Turn {
     let before = t.input;
-    let came = input::read_behind(buf, before.kept);
+    let came = input::read_behind(from, buf, before.kept);
     if before.kept < came.end {
         return answered(buf, t, came.end);
     }
@@ -65,31 +65,31 @@ fn put_all(out: &mut [u8], t: Turn) -> usize {
 }
 
 // Writes the first so many bytes, and says whether that could be done.
-fn say(out: &[u8], n: usize) -> bool {
+fn say(mut to: Stdout, out: &[u8], n: usize) -> bool {
     if n <= out.len() {
-        return io::write_all(STDOUT_FILENO, &out[0..n]);
+        return to.write_all(&out[0..n]).is_ok();
     }
     false
 }
 
-fn finish(t: Turn) {
-    let mut out = io::buffer();
+fn finish(to: Stdout, aside: Stderr, t: Turn) {
+    let mut out = [0u8; 4096];
     let n = put_all(&mut out, t);
-    let written = say(&out, n);
-    input::complain(t.input.failed, written);
+    let written = say(to, &out, n);
+    input::complain(aside, t.input.failed, written);
 }
 
 // A proved loop has to end, and nothing says that an input does: the turns are counted down from a
 // number that no input uses up.
-fn main() {
+fn main(rt: HostRuntime) {
     let mut buf = [0u8; ROOM];
     let mut t = begun();
     let mut turns = u64::MAX;
     let mut more = true;
     while turns > 0 && more {
-        t = once(&mut buf, t);
+        t = once(rt.stdin(), &mut buf, t);
         more = t.input.more;
         turns -= 1;
     }
-    finish(t);
+    finish(rt.stdout(), rt.stderr(), t);
 }

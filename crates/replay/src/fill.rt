@@ -1,10 +1,10 @@
 // Texts with numbers in them: what a line says stands in one list, and is picked by a number.
+use itoa::Buffer;
 
 // Puts a number of up to twenty digits.
 fn put_long(out: &mut [u8], at: usize, n: u64) -> usize {
-    let mut figures = [0u8; 20];
-    let k = io::decimal(n, &mut figures);
-    text::put(out, at, &figures[..k])
+    let mut figures = Buffer::new();
+    text::put(out, at, figures.format(n).as_bytes())
 }
 
 fn put_mark(out: &mut [u8], at: usize, c: u8, n: u64) -> usize {

@@ -1,8 +1,8 @@
 // The night as it comes in, a piece of 64 KiB at a time. A field that a piece has not the whole of is kept
 // in front of the next piece.
 use fields::Ending;
-use libc::{STDERR_FILENO, STDIN_FILENO};
 use rack::Rack;
+use std::io::{Read, Stderr, Stdin, Write};
 
 // A piece, and in front of it what is kept: at most the longest field but for one byte, 65,537 bytes.
 const PIECE: usize = 65536;
@@ -48,7 +48,7 @@ pub fn begun() -> Input {
 }
 
 // Reads once, behind the bytes that are kept.
-pub fn read_behind(buf: &mut [u8], kept: usize) -> Came {
+pub fn read_behind(mut from: Stdin, buf: &mut [u8], kept: usize) -> Came {
     let mut came = Came {
         end: kept,
         failed: true,
@@ -59,10 +59,10 @@ pub fn read_behind(buf: &mut [u8], kept: usize) -> Came {
     if KEPT < kept {
         return came;
     }
-    let got = libc::read(STDIN_FILENO, &mut buf[kept..kept + PIECE]);
-    came.failed = got < 0;
-    // No read gives more than it was asked for: the remainder changes nothing, and shows that the sum fits.
-    came.end = kept + io::count(got, buf) % (PIECE + 1);
+    if let Ok(n) = from.read(&mut buf[kept..kept + PIECE]) {
+        came.failed = false;
+        came.end = kept + n;
+    }
     came
 }
 
@@ -101,11 +101,11 @@ pub fn over(before: Input, failed: bool) -> Input {
 }
 
 // What failed is said on standard error too.
-pub fn complain(failed: bool, written: bool) {
+pub fn complain(mut to: Stderr, failed: bool, written: bool) {
     if failed {
-        io::write_all(STDERR_FILENO, b"the night could not be read to its end\n");
+        let _ = to.write_all(b"the night could not be read to its end\n");
     }
     if !written {
-        io::write_all(STDERR_FILENO, b"the answers could not be written\n");
+        let _ = to.write_all(b"the answers could not be written\n");
     }
 }

@@ -10,15 +10,16 @@ use crate::table::{put_state, put_table, state_of};
 use crate::what::put_what;
 use fields::{Field, alone};
 use ground::Verdict;
-use libc::STDOUT_FILENO;
 use night::Found;
 use port::Actions;
 use rack::{PORTS, Rack};
 use setup::SetUp;
+use std::io::{Stdout, Write};
 
-// What has been told.
+// What has been told, and where it is told.
 #[derive(Clone, Copy)]
 pub struct Told {
+    pub to: Stdout,
     // How many events there were.
     pub events: u64,
     // Where the text ends that is not written yet, and whether all before it could be written.
@@ -41,9 +42,9 @@ const MUCH: usize = 61440;
 pub const TEXT: usize = 65536;
 
 // Writes the first so many bytes, and says whether that could be done.
-fn say(out: &[u8], n: usize) -> bool {
+fn say(mut to: Stdout, out: &[u8], n: usize) -> bool {
     if n <= out.len() {
-        return io::write_all(STDOUT_FILENO, &out[0..n]);
+        return to.write_all(&out[0..n]).is_ok();
     }
     false
 }
@@ -97,7 +98,7 @@ impl Told {
     // Writes the text up to its end, unless some before it could not be written.
     pub fn say(mut self, out: &[u8]) -> Told {
         if self.written {
-            self.written = say(out, self.end);
+            self.written = say(self.to, out, self.end);
         }
         self.end = 0;
         self

@@ -13,6 +13,7 @@ mod what;
 use input::{Input, ROOM};
 use lines::{TEXT, Told};
 use rack::Rack;
+use std::io::{Stderr, Stdin, Stdout};
 
 #[derive(Clone, Copy)]
 struct Turn {
@@ -21,9 +22,10 @@ struct Turn {
     told: Told,
 }
 
-fn begun() -> Turn {
+fn begun(to: Stdout) -> Turn {
     let rack = input::no_rack();
     let told = Told {
+        to: to,
         events: 0,
         end: 0,
         written: true,
@@ -48,9 +50,9 @@ fn answered(buf: &mut [u8; ROOM], out: &mut [u8; TEXT], t: Turn, end: usize) -> 
 }
 
 // Reads once, and answers what can be answered of it.
-fn once(buf: &mut [u8; ROOM], out: &mut [u8; TEXT], t: Turn) -> Turn {
+fn once(from: Stdin, buf: &mut [u8; ROOM], out: &mut [u8; TEXT], t: Turn) -> Turn {
     let before = t.input;
-    let came = input::read_behind(buf, before.kept);
+    let came = input::read_behind(from, buf, before.kept);
     if before.kept < came.end {
         return answered(buf, out, t, came.end);
     }
@@ -61,28 +63,28 @@ fn once(buf: &mut [u8; ROOM], out: &mut [u8; TEXT], t: Turn) -> Turn {
 }
 
 // How the night ended, and the table.
-fn finish(out: &mut [u8; TEXT], t: Turn) {
+fn finish(aside: Stderr, out: &mut [u8; TEXT], t: Turn) {
     let i = t.input;
     let mut told = t.told;
     let e = i.ending;
     let ended = ending::put_ending(out, told.end, e, i.failed, i.place);
     told.end = table::put_table(out, ended, t.rack);
     let last = told.say(out);
-    input::complain(i.failed, last.written);
+    input::complain(aside, i.failed, last.written);
 }
 
 // A proved loop has to end, and nothing says that an input does: the turns are counted down from a
 // number that no input uses up.
-fn main() {
+fn main(rt: HostRuntime) {
     let mut buf = [0u8; ROOM];
     let mut out = [0u8; TEXT];
-    let mut t = begun();
+    let mut t = begun(rt.stdout());
     let mut turns = u64::MAX;
     let mut more = true;
     while turns > 0 && more {
-        t = once(&mut buf, &mut out, t);
+        t = once(rt.stdin(), &mut buf, &mut out, t);
         more = t.input.more & t.told.written;
         turns -= 1;
     }
-    finish(&mut out, t);
+    finish(rt.stderr(), &mut out, t);
 }

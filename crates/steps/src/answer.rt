@@ -2,6 +2,7 @@
 use crate::memory::{put_memory, put_packet};
 use crate::words::word;
 use ground::{Refusal, Verdict};
+use itoa::Buffer;
 use outgoing::Packet;
 use port::{Actions, Answer, GoodCrc, Supply};
 use power::Change;
@@ -173,10 +174,10 @@ fn put_memory_in(out: &mut [u8], at: usize, r: Rack, number: u8) -> usize {
 }
 
 fn put_sum(out: &mut [u8], at: usize, r: Rack) -> usize {
-    let mut figures = [0u8; 20];
-    let k = io::decimal(r.load(), &mut figures);
+    let mut figures = Buffer::new();
+    let load = figures.format(r.load());
     let named = text::put(out, at, b" | rack: ");
-    let summed = text::put(out, named, &figures[..k]);
+    let summed = text::put(out, named, load.as_bytes());
     let parted = text::put(out, summed, b" of ");
     text::put_decimal(out, parted, r.supply)
 }

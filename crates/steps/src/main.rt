@@ -14,61 +14,68 @@ mod words;
 
 use bench::{Bench, Step};
 use command::{Command, Order};
-use libc::{STDIN_FILENO, STDOUT_FILENO};
 use line::Line;
 use rack::RackAnswer;
 use setup::SetUp;
+use std::io::{Read, Stdin, Stdout, Write};
 
-// Writes the first bytes.
-fn say(out: &[u8], n: usize) {
+// Writes the first bytes. An answer that cannot be written is lost, and the next line is gone on with.
+fn say(mut to: Stdout, out: &[u8], n: usize) {
     if n <= out.len() {
-        io::write_all(STDOUT_FILENO, &out[0..n]);
+        let _ = to.write_all(&out[0..n]);
     }
 }
 
 // The answer of the port that stands alone.
-fn answer_alone(b: Bench, s: Step) -> Bench {
-    let mut out = io::buffer();
+fn answer_alone(to: Stdout, b: Bench, s: Step) -> Bench {
+    let mut out = [0u8; 4096];
     let n = answer::put_answer(&mut out, s.answer);
-    say(&out, n);
+    say(to, &out, n);
     b.after(s)
 }
 
 // The answer of the rack, with the memory of the port with this number.
-fn answer_in_rack(b: Bench, number: u8, a: RackAnswer) -> Bench {
-    let mut out = io::buffer();
+fn answer_in_rack(to: Stdout, b: Bench, number: u8, a: RackAnswer) -> Bench {
+    let mut out = [0u8; 4096];
     let n = answer::put_rack_answer(&mut out, number, a);
-    say(&out, n);
+    say(to, &out, n);
     b.with_rack(a.rack)
 }
 
-fn note(b: Bench, u: SetUp) -> Bench {
-    io::write_all(STDOUT_FILENO, b"noted\n");
+fn note(to: Stdout, b: Bench, u: SetUp) -> Bench {
+    let noted = b"noted\n";
+    say(to, noted, noted.len());
     b.with_in_hand(u)
 }
 
 // Does what a command that is understood asks.
-fn obey(c: Command, b: Bench) -> Bench {
+fn obey(to: Stdout, c: Command, b: Bench) -> Bench {
     let order = c.order;
     let r = c.rest;
     match order {
-        Order::Alone(coming) => answer_alone(b, b.alone(coming, r)),
-        Order::NewPort => answer_alone(b, b.new_port(r)),
-        Order::InRack(number, coming) => answer_in_rack(b, number, b.in_rack(number, coming, r)),
+        Order::Alone(coming) => answer_alone(to, b, b.alone(coming, r)),
+        Order::NewPort => answer_alone(to, b, b.new_port(r)),
+        Order::InRack(number, coming) => answer_in_rack(
+            to,
+            b,
+            number,
+            b.in_rack(number, coming, r),
+        ),
         // It is about no one port; no rack has a port 0, and so there is no memory to tell.
-        Order::SetUp => answer_in_rack(b, 0, b.set_up()),
-        Order::Supply => note(b, in_hand::begun(r.number)),
-        Order::Place => note(b, in_hand::placed(b.in_hand, r)),
+        Order::SetUp => answer_in_rack(to, b, 0, b.set_up()),
+        Order::Supply => note(to, b, in_hand::begun(r.number)),
+        Order::Place => note(to, b, in_hand::placed(b.in_hand, r)),
     }
 }
 
 // Answers a line, and hands back the bench as it then is.
-fn respond(l: Line, b: Bench) -> Bench {
+fn respond(to: Stdout, l: Line, b: Bench) -> Bench {
     let c = command::understand(l);
     if c.understood() {
-        return obey(c, b);
+        return obey(to, c, b);
     }
-    io::write_all(STDOUT_FILENO, b"not understood\n");
+    let not_understood = b"not understood\n";
+    say(to, not_understood, not_understood.len());
     b
 }
 
@@ -81,7 +88,7 @@ struct Kept {
 
 // Goes through some input and answers each line that ends in it. The bench holds a whole rack, and so it is
 // handed on only there.
-fn take_in(begun: Kept, input: &[u8]) -> Kept {
+fn take_in(to: Stdout, begun: Kept, input: &[u8]) -> Kept {
     let mut line = begun.line;
     let mut bench = begun.bench;
     let mut i = 0;
@@ -89,7 +96,7 @@ fn take_in(begun: Kept, input: &[u8]) -> Kept {
         let c = input[i];
         i += 1;
         if c == b'\n' {
-            bench = respond(line, bench);
+            bench = respond(to, line, bench);
             line = Line::new();
             continue;
         }
@@ -107,26 +114,25 @@ struct Turn {
     kept: Kept,
 }
 
-// Reads once; no more where the input has ended.
-fn read_once(begun: Kept) -> Turn {
-    let mut input = io::large_buffer();
-    let got = libc::read(STDIN_FILENO, &mut input);
-    if got <= 0 {
+// Reads once; no more where the input has ended, or cannot be read on.
+fn read_once(mut from: Stdin, to: Stdout, begun: Kept) -> Turn {
+    let mut input = [0u8; 65536];
+    let n = from.read(&mut input).unwrap_or(0);
+    if n == 0 {
         return Turn {
             more: false,
             kept: begun,
         };
     }
-    let n = io::count(got, &input);
     Turn {
         more: true,
-        kept: take_in(begun, &input[..n]),
+        kept: take_in(to, begun, &input[..n]),
     }
 }
 
 // A proved loop has to end, and nothing says that an input does: the turns are counted down from a
 // number that no input uses up.
-fn main() {
+fn main(rt: HostRuntime) {
     let mut k = Kept {
         line: Line::new(),
         bench: Bench::new(),
@@ -134,7 +140,7 @@ fn main() {
     let mut turns = u64::MAX;
     let mut more = true;
     while turns > 0 && more {
-        let t = read_once(k);
+        let t = read_once(rt.stdin(), rt.stdout(), k);
         k = t.kept;
         more = t.more;
         turns -= 1;
@@ -142,6 +148,6 @@ fn main() {
     let l = k.line;
     let b = k.bench;
     if 0 < l.length {
-        respond(l, b);
+        respond(rt.stdout(), l, b);
     }
 }
