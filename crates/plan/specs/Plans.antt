@@ -53,9 +53,9 @@ plain cue prior = record { cue = cue; prior = prior; crc = no_crc; asked = nothi
 
 abbrev pub met_outcome : Outcome → Cue → Met
 met_outcome NonePending none = plain none Prior.Nothing
-met_outcome Acknowledged none = plain (Cue.Meets Stimulus.Acknowledged false) Prior.Ended
-met_outcome Again none = plain Cue.Done Prior.Again
-met_outcome Failed none = plain (Cue.Meets Stimulus.Failed false) Prior.Ended
+met_outcome Acknowledged _ = plain (Cue.Meets Stimulus.Acknowledged false) Prior.Ended
+met_outcome Again _ = plain Cue.Done Prior.Again
+met_outcome Failed _ = plain (Cue.Meets Stimulus.Failed false) Prior.Ended
 
 unfoldable pub met_event : Channel → Event → Met
 met_event c Event.Attach = plain (Cue.Meets Stimulus.Attach false) Prior.Cleared
