@@ -15,6 +15,8 @@ WORD = r"[^\s(){}\[\];,.:@\"\\λ«»⌜⌝]+"
 DECLARED = re.compile(r"^\s*(?:(?:abbrev|unfoldable|pub|record|data)\s+)*(" + WORD + r")((?:\s*[({][^)}]*[)}])*)\s*:(?=\s|$)")
 # These would fall together with a field or a parameter of src/.
 OTHERS = {"goodCrc": "good_crc_packet", "inHand": "is_in_hand", "setUp": "accepted_set_up"}
+# Voltages, and a part of a record, which needs no other name than the port's.
+OTHERS |= {"inReadyAt9V": "in_ready_at_9v", "asks5V": "asks_5v", "asks5VLater": "asks_5v_later", "asks9V": "asks_9v", "gone-out": "gone_out"}
 SPLIT = re.compile(r"([\s(){}\[\];,.:@\"\\λ«»⌜⌝])")
 
 
@@ -24,7 +26,7 @@ def texts():
 
 
 def snake(name):
-    name = re.sub(r"(?<=[a-z0-9])(?=[A-Z])", "_", name).lower() if re.search(r"[a-z0-9][A-Z]", name) and name[0].islower() else name
+    name = re.sub(r"(?<=[a-z0-9])(?=[A-Z])|(?<=[A-Z])(?=[A-Z][a-z])", "_", name).lower() if re.search(r"[a-z0-9][A-Z]", name) and name[0].islower() else name
     return name.replace("-", "_").replace("′", "'")
 
 
@@ -56,10 +58,10 @@ def spellings():
     out, used = {}, set()
     # What the check looks for: the proof of the function f is f_spec.
     for name in sorted(names, key=lambda n: (n.endswith("-spec"), "-" in n, n)):
-        if name[0].isupper() or "◌" in name or snake(name) == name or not (re.search(r"[a-z][A-Z]", name) or re.search(r"[\w'<>≤]-\w", name) or "′" in name):
+        if name[0].isupper() or "◌" in name or name not in OTHERS and not (re.search(r"[a-z][A-Z]", name) or re.search(r"[\w'<>≤]-\w", name) or "′" in name):
             continue
         new = OTHERS.get(name, snake(name))
-        if not name.endswith("-spec") and (new in used or (new in words and "-" in name)):
+        if name not in OTHERS and not name.endswith("-spec") and (new in used or (new in words and "-" in name)):
             new += "_lem"
         used.add(new)
         out[name] = new

@@ -33,17 +33,17 @@ buffer = 0 ∷ 1 ∷ 2 ∷ 3 ∷ 4 ∷ 5 ∷ 6 ∷ 7 ∷ []
 abbrev written : List ℕ
 written = 0 ∷ 0x82 ∷ 0x12 ∷ 0x2C ∷ 0xB1 ∷ 0x04 ∷ 0x20 ∷ 7 ∷ []
 
--- a write that is accepted (WrittenReadsBack.written-reads-back, RefusedWriteChangesNothing.no-other-byte)
+-- a write that is accepted (WrittenReadsBack.written_reads_back, RefusedWriteChangesNothing.no_other_byte)
 pub a_write : Wrote request objects buffer 1 (Writing.Written 6) written
 unfolding writing_tried refuse_if any_of is_chunked word_of bytes_of header_of
 a_write = record { result = refl; buffer = refl }
 
--- a message that writing takes (WrittenReadsBack.good-is-written)
+-- a message that writing takes (WrittenReadsBack.good_is_written)
 pub a_good_message : Writable request objects (length buffer) 1
 unfolding writing_tried refuse_if any_of is_chunked word_of
 a_good_message = writable request objects 8 1 refl
 
--- whose fields fit, in a header that names its one object (message: RoundTrip.unpack-pack, objects-pack, pack-unpack)
+-- whose fields fit, in a header that names its one object (message: RoundTrip.unpack_pack, objects_pack, pack_unpack)
 pub fields_that_fit : Fits request
 fields_that_fit = a_good_message.sound.fits
 
@@ -51,7 +51,7 @@ pub a_header : (header_of request 1 ≡ 0x1282) × (1 < 8) × (0x1282 < 65536)
 unfolding header_of
 a_header = (refl, omega arith, omega arith)
 
--- a packet that is read (ReadWritesBack.read-writes-back)
+-- a packet that is read (ReadWritesBack.read_writes_back)
 pub a_packet : (AreBytes packet) × (read_of packet ≡ Reading.Message 1 request) × (part_of packet ≡ objects)
 unfolding read_of reading_tried part_of refuse_if is_chunked word_of fields_of objects_of
 a_packet = (are_bytes packet tt, refl, refl)
@@ -59,12 +59,12 @@ a_packet = (are_bytes packet tt, refl, refl)
 abbrev reserved : Fields
 reserved = record { extended = false; message_id = 0; power_role = 1; revision = 3; data_role = 0; message_type = 1 }
 
--- the reserved revision is read (ReadWritesBack.reserved-never-written)
+-- the reserved revision is read (ReadWritesBack.reserved_never_written)
 pub a_reserved_packet : read_of (0xC1 ∷ 0x01 ∷ []) ≡ Reading.Message 0 reserved
 unfolding read_of reading_tried refuse_if is_chunked word_of fields_of objects_of
 a_reserved_packet = refl
 
--- and its writing is refused (RefusedWriteChangesNothing.refused-changes-nothing)
+-- and its writing is refused (RefusedWriteChangesNothing.refused_changes_nothing)
 pub a_refused_write : Wrote reserved [] buffer 1 (Writing.Refused OutOfRange) buffer
 unfolding writing_tried refuse_if any_of
 a_refused_write = record { result = refl; buffer = refl }

@@ -149,11 +149,11 @@ record Cases : Type 0 where
   mismatched : Acceptable Wrong.hears_no_mismatch u one 0 (wanting 0x24) 1 first
   hears_none : is_accept (on_wire (answer Wrong.hears_no_mismatch one (packet (wanting 0x24))).actions.transmit) ≡ false
   hears_all :
-      (is_accept (on_wire (answer Wrong.hears_amismatch_in_every_request one (packet (wanting 0x20))).actions.transmit) ≡ true)
-      × (fits 1 (first_object (part_of (wanting 0x20))) (at1 Wrong.hears_amismatch_in_every_request one).last ≡ false)
+      (is_accept (on_wire (answer Wrong.hears_a_mismatch_in_every_request one (packet (wanting 0x20))).actions.transmit) ≡ true)
+      × (fits 1 (first_object (part_of (wanting 0x20))) (at1 Wrong.hears_a_mismatch_in_every_request one).last ≡ false)
   compares_none :
-      (is_accept (on_wire (answer Wrong.compares_no_current_of_amismatch one (packet (drawing 0x24))).actions.transmit) ≡ true)
-      × (fits 1 (first_object (part_of (drawing 0x24))) (at1 Wrong.compares_no_current_of_amismatch one).last ≡ false)
+      (is_accept (on_wire (answer Wrong.compares_no_current_of_a_mismatch one (packet (drawing 0x24))).actions.transmit) ≡ true)
+      × (fits 1 (first_object (part_of (drawing 0x24))) (at1 Wrong.compares_no_current_of_a_mismatch one).last ≡ false)
   accepts : leb (total (λ i. held_by (suc i) (history Wrong.accepts_everything u three)) 4) 240000 ≡ false
   counts : leb (total (λ i. held_by (suc i) (history Wrong.counts_only_its_own_port u three)) 4) 240000 ≡ false
   forgets : leb (total (λ i. max (setting u i).share (held_by (suc i) (history Wrong.forgets_the_shares_of_idle_ports u two))) 4) 240000 ≡ false
@@ -176,15 +176,15 @@ record Cases : Type 0 where
       × (eqb (after Wrong.counts_no_offer [] (event Event.Attach)).count 1 ≡ false)
       × (eqb (led Wrong.counts_no_offer [] (event Event.Attach)).count 1 ≡ true)
   survives :
-      (has_asked (at1 Wrong.keeps_the_retry_through_ahard_reset promised) (own Wrong.keeps_the_retry_through_ahard_reset promised (event Event.HardReset)).port ≡ false)
-      × (pending_in (after Wrong.keeps_the_retry_through_ahard_reset promised (event Event.HardReset)) ≡ true)
-      × (pending_in (led Wrong.keeps_the_retry_through_ahard_reset promised (event Event.HardReset)) ≡ false)
+      (has_asked (at1 Wrong.keeps_the_retry_through_a_hard_reset promised) (own Wrong.keeps_the_retry_through_a_hard_reset promised (event Event.HardReset)).port ≡ false)
+      × (pending_in (after Wrong.keeps_the_retry_through_a_hard_reset promised (event Event.HardReset)) ≡ true)
+      × (pending_in (led Wrong.keeps_the_retry_through_a_hard_reset promised (event Event.HardReset)) ≡ false)
   reads_nothing : eqb (length (bytes_of alike [])) 0 ≡ false
-  refused_write : (Wrong.changes_the_buffer_of_arefused_write).write reserved [] (7 ∷ []) 0 ≡ Writing.Refused OutOfRange
+  refused_write : (Wrong.changes_the_buffer_of_a_refused_write).write reserved [] (7 ∷ []) 0 ≡ Writing.Refused OutOfRange
   invents :
-      (ltb 0 (answer Wrong.invents_aretry reset (event Event.Acknowledgement)).actions.transmit.length ≡ true)
-      × (pending_in (after Wrong.invents_aretry reset (event Event.Acknowledgement)) ≡ false)
-      × (pending_in (at1 Wrong.invents_aretry reset) ≡ false)
+      (ltb 0 (answer Wrong.invents_a_retry reset (event Event.Acknowledgement)).actions.transmit.length ≡ true)
+      × (pending_in (after Wrong.invents_a_retry reset (event Event.Acknowledgement)) ≡ false)
+      × (pending_in (at1 Wrong.invents_a_retry reset) ≡ false)
 
 cases : Cases
 unfolding read_of reading_tried refuse_if word_of fields_of objects_of header_of is_chunked meaning_of bytes_of part_of object_at good_object good_from good_offer fits asked fit_of control_of data_of pending_id is_repeat ended heard sends on_good_crc changed standing_of leads on_packet change_of enter turn happens acknowledged by_outcome nothing_done event_of first_object meaning_in heard_as new_packet other_packet good_crc_heard by_meaning message_of packet_of Port.step approves judged settled others answer_at step run_by history_by held_by is_offer good_setting good_set_up accepted_set_up is_accept on_expiry again failed resent is_honoured writing_tried any_of
@@ -259,13 +259,13 @@ pub hears_no_mismatch_lem : Demand2 Wrong.hears_no_mismatch → ⊥
 hears_no_mismatch_lem d =
     true_not_false (sym ((d.accepts u cases.set_up_lem one 0 at_first).accepted_when (wanting 0x24) 1 first cases.mismatches.0 cases.read.2 cases.mismatched) ∙ cases.hears_none)
 
-pub hears_a_mismatch_in_every_request : Demand2 Wrong.hears_amismatch_in_every_request → ⊥
-hears_a_mismatch_in_every_request d =
+pub hears_a_mismatch_in_every_request_lem : Demand2 Wrong.hears_a_mismatch_in_every_request → ⊥
+hears_a_mismatch_in_every_request_lem d =
     let c = cases.hears_all in
     true_not_false (sym ((d.accepts u cases.set_up_lem one 0 at_first).accepted_only_when (wanting 0x20) 1 first cases.mismatches.1 cases.read.2 c.0).fits_the_last_offer ∙ c.1)
 
-pub compares_no_current_of_a_mismatch : Demand2 Wrong.compares_no_current_of_amismatch → ⊥
-compares_no_current_of_a_mismatch d =
+pub compares_no_current_of_a_mismatch_lem : Demand2 Wrong.compares_no_current_of_a_mismatch → ⊥
+compares_no_current_of_a_mismatch_lem d =
     let c = cases.compares_none in
     true_not_false (sym ((d.accepts u cases.set_up_lem one 0 at_first).accepted_only_when (drawing 0x24) 1 first cases.mismatches.2 cases.read.2 c.0).fits_the_last_offer ∙ c.1)
 
@@ -302,8 +302,8 @@ counts_no_offer_lem d =
     let c = cases.uncounted in
     true_not_false (sym c.2 ∙ sym (ap (λ a. eqb (at a.rack 0).port.count 1) ((d.steps u cases.set_up_lem [] 0 at_first).by_itself (event Event.Attach) c.0)) ∙ c.1)
 
-pub keeps_the_retry_through_a_hard_reset : Demand2 Wrong.keeps_the_retry_through_ahard_reset → ⊥
-keeps_the_retry_through_a_hard_reset d =
+pub keeps_the_retry_through_a_hard_reset_lem : Demand2 Wrong.keeps_the_retry_through_a_hard_reset → ⊥
+keeps_the_retry_through_a_hard_reset_lem d =
     let c = cases.survives in
     true_not_false (sym c.1 ∙ ap (λ a. pending_in (at a.rack 0).port) ((d.steps u cases.set_up_lem promised 0 at_first).by_itself (event Event.HardReset) c.0) ∙ c.2)
 
@@ -314,17 +314,17 @@ by_fate a some none p nothing (made f) =
     true_not_false (sym some ∙ sym (ap (λ (x : Pending). ltb 0 x.packet.length) f.pending) ∙ none)
 by_fate a some none p nothing (goes_again x) = true_not_false (sym x.was_pending ∙ nothing)
 
-pub invents_a_retry : Demand2 Wrong.invents_aretry → ⊥
-invents_a_retry d =
+pub invents_a_retry_lem : Demand2 Wrong.invents_a_retry → ⊥
+invents_a_retry_lem d =
     let c = cases.invents in
-    by_fate (seen Wrong.invents_aretry u reset 0 (event Event.Acknowledgement)) c.0 c.1 (at1 Wrong.invents_aretry reset) c.2 ((d.retries u cases.set_up_lem reset 0 at_first).fate (event Event.Acknowledgement))
+    by_fate (seen Wrong.invents_a_retry u reset 0 (event Event.Acknowledgement)) c.0 c.1 (at1 Wrong.invents_a_retry reset) c.2 ((d.retries u cases.set_up_lem reset 0 at_first).fate (event Event.Acknowledgement))
 
 -- one constant reading, a refused write that changes a byte, a set-up that is never accepted
 pub reads_all_alike_lem : Demand2 Wrong.reads_all_alike → ⊥
 reads_all_alike_lem d = true_not_false (sym (ap (λ (l : List ℕ). eqb (length l) 0) (d.messages.nothing_else_is_read [] (are_bytes [] tt) 0 alike refl)) ∙ cases.reads_nothing)
 
-pub changes_the_buffer_of_a_refused_write : Demand1 Wrong.changes_the_buffer_of_arefused_write → ⊥
-changes_the_buffer_of_a_refused_write d =
+pub changes_the_buffer_of_a_refused_write_lem : Demand1 Wrong.changes_the_buffer_of_a_refused_write → ⊥
+changes_the_buffer_of_a_refused_write_lem d =
     true_not_false (ap (λ (l : List ℕ). eqb (length l) 0) (d.no_lent_byte_is_different reserved [] (7 ∷ []) 0 OutOfRange cases.refused_write))
 
 pub refuses_every_set_up_lem : Demand1 Wrong.refuses_every_set_up → ⊥

@@ -96,8 +96,8 @@ abbrev pub counts_no_offer : Program
 counts_no_offer = changed_by (λ r number h a. with_port (place_of number) (count_is 0) a)
 
 -- what is pending stays so in Hard
-abbrev pub keeps_the_retry_through_ahard_reset : Program
-keeps_the_retry_through_ahard_reset =
+abbrev pub keeps_the_retry_through_a_hard_reset : Program
+keeps_the_retry_through_a_hard_reset =
     changed_by
     (λ r number h a.
     let i = place_of number in
@@ -115,8 +115,8 @@ accept_once_more =
       start = no_actions.start;
     }
 
-abbrev pub invents_aretry : Program
-invents_aretry =
+abbrev pub invents_a_retry : Program
+invents_a_retry =
     changed_by
     (λ r number h a. cond (same (state_of (at r (place_of number)).port) State.Hard) (record { verdict = Fine; rack = a.rack; actions = accept_once_more; held = a.held }) a)
 
@@ -134,11 +134,11 @@ answers_another_port = stepped_by (λ r number h. step r (cond (eqb number 1) 2 
 abbrev pub hears_no_mismatch : Program
 hears_no_mismatch = stepped_by (fitting_by both_compared)
 
-abbrev pub hears_amismatch_in_every_request : Program
-hears_amismatch_in_every_request = stepped_by (fitting_by operating_fits)
+abbrev pub hears_a_mismatch_in_every_request : Program
+hears_a_mismatch_in_every_request = stepped_by (fitting_by operating_fits)
 
-abbrev pub compares_no_current_of_amismatch : Program
-compares_no_current_of_amismatch = stepped_by (fitting_by (λ count r o. (eqb count 1 && has o (position_of r)) && (is_mismatch r || both_compared count r o)))
+abbrev pub compares_no_current_of_a_mismatch : Program
+compares_no_current_of_a_mismatch = stepped_by (fitting_by (λ count r o. (eqb count 1 && has o (position_of r)) && (is_mismatch r || both_compared count r o)))
 
 -- ---- other limits: those of before request 08; and a port or a unit over ours
 abbrev limited_to : ℕ → ℕ → Program
@@ -166,8 +166,8 @@ reads_all_alike =
     }
 
 -- the buffer is emptied, refused or not
-abbrev pub changes_the_buffer_of_arefused_write : Program
-changes_the_buffer_of_arefused_write = record { read = ours.read; part = ours.part; write = ours.write; buffer = λ f o buf place. []; accepted_set_up = ours.accepted_set_up; step = ours.step }
+abbrev pub changes_the_buffer_of_a_refused_write : Program
+changes_the_buffer_of_a_refused_write = record { read = ours.read; part = ours.part; write = ours.write; buffer = λ f o buf place. []; accepted_set_up = ours.accepted_set_up; step = ours.step }
 
 abbrev pub refuses_every_set_up : Program
 refuses_every_set_up = record { read = ours.read; part = ours.part; write = ours.write; buffer = ours.buffer; accepted_set_up = λ u. SetUps.judged false u; step = ours.step }

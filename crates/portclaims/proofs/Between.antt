@@ -209,7 +209,7 @@ module _ (p : Port) (k : Between p) where
   pub record Ruled (e : Stimulus) (q : Port) : Type 0 where
     pub state : state_of q ≡ Tables.ruled_state e (state_of p)
     pub pending : pending_in q ≡ Tables.ruled_pending e (pending_in p)
-    pub gone_out_lem : q.gone_out ≡ Tables.ruled_gone_out e p.gone_out
+    pub gone_out : q.gone_out ≡ Tables.ruled_gone_out e p.gone_out
     pub made : is_made q.power.contract ≡ Tables.ruled_made e (is_made p.power.contract)
     pub numbered : Numbered q.channel
     pub reset : is_reset (state_of q) ≡ true → q.channel ≡ fresh
@@ -228,7 +228,7 @@ module _ (p : Port) (k : Between p) where
       record {
         state = sym s;
         pending = sym b;
-        gone_out_lem = sym g;
+        gone_out = sym g;
         made = sym m;
         numbered = numbered_fresh;
         reset = λ h. refl;
@@ -246,7 +246,7 @@ module _ (p : Port) (k : Between p) where
       record {
         state = s;
         pending = b;
-        gone_out_lem = g;
+        gone_out = g;
         made = m;
         numbered = numbered_ended p.channel k.numbered;
         reset = λ h. true_not_false (sym on ∙ ap is_pending (k.reset h));
@@ -260,7 +260,7 @@ module _ (p : Port) (k : Between p) where
   as_it_was : (e : Stimulus) → state_of p ≡ Tables.ruled_state e (state_of p) → pending_in p ≡ Tables.ruled_pending e (pending_in p) → p.gone_out ≡ Tables.ruled_gone_out e p.gone_out →
       is_made p.power.contract ≡ Tables.ruled_made e (is_made p.power.contract) → Tables.possible e (pending_in p) ≡ true → Ruled e p
   as_it_was e s b g m x =
-      record { state = s; pending = b; gone_out_lem = g; made = m; numbered = k.numbered; reset = k.reset; known = k.known; shown = k.shown; held = k.holds; counted = k.counted; possible = x }
+      record { state = s; pending = b; gone_out = g; made = m; numbered = k.numbered; reset = k.reset; known = k.known; shown = k.shown; held = k.holds; counted = k.counted; possible = x }
 
   ruled : (c : Call) (e : Stimulus) (q : Port) (t : Timer) → Rule p c e q t → Ruled e q
   ruled c e q t by_attach = ruled_cleared Stimulus.Attach refl refl refl refl refl
@@ -278,7 +278,7 @@ module _ (p : Port) (k : Between p) where
       record {
         state = refl;
         pending = refl;
-        gone_out_lem = refl;
+        gone_out = refl;
         made = refl;
         numbered = k.numbered;
         reset = k.reset;
@@ -313,7 +313,7 @@ module _ (p : Port) (k : Between p) where
     end_pending = (Ways.goes way a changed_port).pending ∙ rw (change_channel q change, r.pending)
 
     end_gone_out : end.gone_out ≡ Ways.gone_out_after (Tables.ruled_gone_out e p.gone_out) way
-    end_gone_out = (Ways.goes way a changed_port).gone_out_lem ∙ rw (change_gone_out q change, r.gone_out_lem)
+    end_gone_out = (Ways.goes way a changed_port).gone_out ∙ rw (change_gone_out q change, r.gone_out)
 
     end_made : is_made end.power.contract ≡ Ways.made_after (Tables.ruled_made e (Tables.made_by (facts_of p).standing)) change
     end_made = rw ((Ways.goes way a changed_port).contract, change_made q change, r.made, made_by p.power.contract p.last)
@@ -400,7 +400,7 @@ module _ (p : Port) (k : Between p) where
 
     calm_after_lem : calm (state_of after) (pending_in after) after.gone_out (is_made after.power.contract) ≡ true
     calm_after_lem =
-        rw ((Ways.goes way a hearer).state, (Ways.goes way a hearer).pending, none_left, (Ways.goes way a hearer).gone_out_lem, (Ways.goes way a hearer).contract)
+        rw ((Ways.goes way a hearer).state, (Ways.goes way a hearer).pending, none_left, (Ways.goes way a hearer).gone_out, (Ways.goes way a hearer).contract)
         (then (at_ready && at_declining) (calm (Ways.state_after (state_of p) way) (Ways.pending_after false way) (Ways.gone_out_after p.gone_out way) (is_made p.power.contract))
         (of_packet_lem (Tables.calm_heard (state_of p) p.gone_out (is_made p.power.contract)) (Tables.calm_heard_lem (state_of p) h p.gone_out (is_made p.power.contract))) was_calm)
 

@@ -39,11 +39,11 @@ neither false b e = (refl, e)
 module _ (p : Port) (limit : ℕ) (o : Offer) (good : good_offer limit o ≡ true) where
   pub new_offer_in_ready : state_of p ≡ State.Ready → ToOffer o (step p (new_offer limit o))
   unfolding step new_offer_of happens leads change_of turn enter sends
-  new_offer_in_ready s = rw (good, s) (record { state = refl; sent = refl; newest = refl; last = refl; gone_out_lem = refl })
+  new_offer_in_ready s = rw (good, s) (record { state = refl; sent = refl; newest = refl; last = refl; gone_out = refl })
 
   pub new_offer_in_waiting : state_of p ≡ State.Waiting → ToOffer o (step p (new_offer limit o))
   unfolding step new_offer_of happens leads change_of turn enter sends
-  new_offer_in_waiting s = rw (good, s) (record { state = refl; sent = refl; newest = refl; last = refl; gone_out_lem = refl })
+  new_offer_in_waiting s = rw (good, s) (record { state = refl; sent = refl; newest = refl; last = refl; gone_out = refl })
 
   pub new_offer_is_kept : (same (state_of p) State.Ready || same (state_of p) State.Waiting) ≡ false →
       ((step p (new_offer limit o)).port ≡ replaced p o) × ((step p (new_offer limit o)).actions.transmit ≡ no_packet)
@@ -60,29 +60,29 @@ module _ (p : Port) (waits : p.gone_out ≡ false) where
       × ((acknowledged p).port.power.contract ≡ Contract.Made p.power.accepted)
       × ((acknowledged p).port.power.held ≡ p.power.accepted.worth)
   unfolding acknowledged happens leads change_of turn enter changed sends
-  ready_told_and_offered s = rw (s, waits) (record { state = refl; sent = refl; newest = refl; last = refl; gone_out_lem = refl }, refl, refl)
+  ready_told_and_offered s = rw (s, waits) (record { state = refl; sent = refl; newest = refl; last = refl; gone_out = refl }, refl, refl)
 
   pub declined_and_offered : state_of p ≡ State.Declining → ToOffer p.newest (acknowledged p)
   unfolding acknowledged happens leads change_of turn enter sends
-  declined_and_offered s = rw (s, waits) (record { state = refl; sent = refl; newest = refl; last = refl; gone_out_lem = refl })
+  declined_and_offered s = rw (s, waits) (record { state = refl; sent = refl; newest = refl; last = refl; gone_out = refl })
 
   pub rejected_and_offered : state_of p ≡ State.Refusing → standing_of p.power.contract p.last ≡ Standing.NoContract →
       ToOffer p.newest (acknowledged p)
   unfolding acknowledged happens leads change_of turn enter sends
-  rejected_and_offered s c = rw (s, c, waits) (record { state = refl; sent = refl; newest = refl; last = refl; gone_out_lem = refl })
+  rejected_and_offered s c = rw (s, c, waits) (record { state = refl; sent = refl; newest = refl; last = refl; gone_out = refl })
 
   pub rejected_with_contract_and_offered : state_of p ≡ State.Refusing → standing_of p.power.contract p.last ≡ Standing.Honoured →
       ToOffer p.newest (acknowledged p)
   unfolding acknowledged happens leads change_of turn enter sends
-  rejected_with_contract_and_offered s c = rw (s, c, waits) (record { state = refl; sent = refl; newest = refl; last = refl; gone_out_lem = refl })
+  rejected_with_contract_and_offered s c = rw (s, c, waits) (record { state = refl; sent = refl; newest = refl; last = refl; gone_out = refl })
 
 -- ---- "Soft: Accept: Offer."
 pub soft_reset_accepted : (p : Port) (s : List ℕ) (n : ℕ) (f : Fields) → New p s n f Meaning.Reply → f.message_type ≡ Types.Accept → state_of p ≡ State.Soft →
     ToOffer p.newest (step p (packet s))
 unfolding step packet_of message_of by_meaning other_packet new_packet heard_as on_packet turn enter sends
-soft_reset_accepted p s n f k t soft = rw (k.read, k.meaning, k.fresh, t, soft) (record { state = refl; sent = refl; newest = refl; last = refl; gone_out_lem = refl })
+soft_reset_accepted p s n f k t soft = rw (k.read, k.meaning, k.fresh, t, soft) (record { state = refl; sent = refl; newest = refl; last = refl; gone_out = refl })
 
 -- ---- "Detached takes attach, to Offer."
 pub attached : (p : Port) → state_of p ≡ State.Detached → ToOffer p.newest (step p (event Event.Attach))
 unfolding step event_of happens leads change_of turn enter sends
-attached p s = rw s (record { state = refl; sent = refl; newest = refl; last = refl; gone_out_lem = refl })
+attached p s = rw s (record { state = refl; sent = refl; newest = refl; last = refl; gone_out = refl })

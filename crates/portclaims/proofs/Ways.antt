@@ -79,7 +79,7 @@ some count = lt-ltb 0 (2 + 4 * (count % 8)) (omega arith)
 pub record Goes (w : Way) (p : Port) (e : Entered) : Type 0 where
   pub state : state_of e.port ≡ state_after (state_of p) w
   pub pending : pending_in e.port ≡ pending_after (pending_in p) w
-  pub gone_out_lem : e.port.gone_out ≡ gone_out_after p.gone_out w
+  pub gone_out : e.port.gone_out ≡ gone_out_after p.gone_out w
   pub contract : e.port.power.contract ≡ p.power.contract
   pub held : e.port.power.held ≡ p.power.held
   pub start : e.start ≡ start_of w
@@ -91,23 +91,23 @@ pub record Goes (w : Way) (p : Port) (e : Entered) : Type 0 where
 
 pub goes : (w : Way) (a : Asked) (p : Port) → Goes w p (enter w a p)
 unfolding enter sends control_of data_of
-goes Way.Stay a p = record { state = refl; pending = refl; gone_out_lem = refl; contract = refl; held = refl; start = refl; count = refl; counter = refl; sent = refl; quiet = λ h. refl; alone = λ h. refl }
-goes Way.Offered a p = record { state = refl; pending = refl; gone_out_lem = refl; contract = refl; held = refl; start = refl; count = refl; counter = refl; sent = refl; quiet = λ h. refl; alone = λ h. refl }
-goes Way.Softened a p = record { state = refl; pending = refl; gone_out_lem = refl; contract = refl; held = refl; start = refl; count = refl; counter = refl; sent = refl; quiet = λ h. refl; alone = λ h. refl }
-goes Way.Offer a p = record { state = refl; pending = some p.newest.count; gone_out_lem = refl; contract = refl; held = refl; start = refl; count = refl; counter = refl; sent = rw (some p.newest.count) refl; quiet = true_not_false; alone = true_not_false }
-goes Way.Discovery a p = record { state = refl; pending = refl; gone_out_lem = refl; contract = refl; held = refl; start = refl; count = refl; counter = refl; sent = refl; quiet = λ h. refl; alone = λ h. refl }
-goes Way.Disabled a p = record { state = refl; pending = refl; gone_out_lem = refl; contract = refl; held = refl; start = refl; count = refl; counter = refl; sent = refl; quiet = λ h. refl; alone = λ h. refl }
-goes Way.Judge a p = record { state = refl; pending = refl; gone_out_lem = refl; contract = refl; held = refl; start = refl; count = refl; counter = refl; sent = refl; quiet = λ h. refl; alone = λ h. refl }
-goes Way.Accepting a p = record { state = refl; pending = refl; gone_out_lem = refl; contract = refl; held = refl; start = refl; count = refl; counter = refl; sent = refl; quiet = true_not_false; alone = true_not_false }
-goes Way.Moving a p = record { state = refl; pending = refl; gone_out_lem = refl; contract = refl; held = refl; start = refl; count = refl; counter = refl; sent = refl; quiet = λ h. refl; alone = λ h. refl }
-goes Way.Telling a p = record { state = refl; pending = refl; gone_out_lem = refl; contract = refl; held = refl; start = refl; count = refl; counter = refl; sent = refl; quiet = true_not_false; alone = true_not_false }
-goes Way.Ready a p = record { state = refl; pending = refl; gone_out_lem = refl; contract = refl; held = refl; start = refl; count = refl; counter = refl; sent = refl; quiet = λ h. refl; alone = λ h. refl }
-goes Way.Declining a p = record { state = refl; pending = refl; gone_out_lem = refl; contract = refl; held = refl; start = refl; count = refl; counter = refl; sent = refl; quiet = true_not_false; alone = true_not_false }
-goes Way.Refusing a p = record { state = refl; pending = refl; gone_out_lem = refl; contract = refl; held = refl; start = refl; count = refl; counter = refl; sent = refl; quiet = true_not_false; alone = true_not_false }
-goes Way.Waiting a p = record { state = refl; pending = refl; gone_out_lem = refl; contract = refl; held = refl; start = refl; count = refl; counter = refl; sent = refl; quiet = λ h. refl; alone = λ h. refl }
-goes Way.Soft a p = record { state = refl; pending = refl; gone_out_lem = refl; contract = refl; held = refl; start = refl; count = refl; counter = refl; sent = refl; quiet = true_not_false; alone = true_not_false }
-goes Way.Answering a p = record { state = refl; pending = refl; gone_out_lem = refl; contract = refl; held = refl; start = refl; count = refl; counter = refl; sent = refl; quiet = true_not_false; alone = true_not_false }
-goes Way.Hard a p = record { state = refl; pending = refl; gone_out_lem = refl; contract = refl; held = refl; start = refl; count = refl; counter = refl; sent = refl; quiet = λ h. refl; alone = true_not_false }
-goes Way.HardHeard a p = record { state = refl; pending = refl; gone_out_lem = refl; contract = refl; held = refl; start = refl; count = refl; counter = refl; sent = refl; quiet = λ h. refl; alone = true_not_false }
-goes Way.Default a p = record { state = refl; pending = refl; gone_out_lem = refl; contract = refl; held = refl; start = refl; count = refl; counter = refl; sent = refl; quiet = λ h. refl; alone = λ h. refl }
-goes Way.Detached a p = record { state = refl; pending = refl; gone_out_lem = refl; contract = refl; held = refl; start = refl; count = refl; counter = refl; sent = refl; quiet = λ h. refl; alone = λ h. refl }
+goes Way.Stay a p = record { state = refl; pending = refl; gone_out = refl; contract = refl; held = refl; start = refl; count = refl; counter = refl; sent = refl; quiet = λ h. refl; alone = λ h. refl }
+goes Way.Offered a p = record { state = refl; pending = refl; gone_out = refl; contract = refl; held = refl; start = refl; count = refl; counter = refl; sent = refl; quiet = λ h. refl; alone = λ h. refl }
+goes Way.Softened a p = record { state = refl; pending = refl; gone_out = refl; contract = refl; held = refl; start = refl; count = refl; counter = refl; sent = refl; quiet = λ h. refl; alone = λ h. refl }
+goes Way.Offer a p = record { state = refl; pending = some p.newest.count; gone_out = refl; contract = refl; held = refl; start = refl; count = refl; counter = refl; sent = rw (some p.newest.count) refl; quiet = true_not_false; alone = true_not_false }
+goes Way.Discovery a p = record { state = refl; pending = refl; gone_out = refl; contract = refl; held = refl; start = refl; count = refl; counter = refl; sent = refl; quiet = λ h. refl; alone = λ h. refl }
+goes Way.Disabled a p = record { state = refl; pending = refl; gone_out = refl; contract = refl; held = refl; start = refl; count = refl; counter = refl; sent = refl; quiet = λ h. refl; alone = λ h. refl }
+goes Way.Judge a p = record { state = refl; pending = refl; gone_out = refl; contract = refl; held = refl; start = refl; count = refl; counter = refl; sent = refl; quiet = λ h. refl; alone = λ h. refl }
+goes Way.Accepting a p = record { state = refl; pending = refl; gone_out = refl; contract = refl; held = refl; start = refl; count = refl; counter = refl; sent = refl; quiet = true_not_false; alone = true_not_false }
+goes Way.Moving a p = record { state = refl; pending = refl; gone_out = refl; contract = refl; held = refl; start = refl; count = refl; counter = refl; sent = refl; quiet = λ h. refl; alone = λ h. refl }
+goes Way.Telling a p = record { state = refl; pending = refl; gone_out = refl; contract = refl; held = refl; start = refl; count = refl; counter = refl; sent = refl; quiet = true_not_false; alone = true_not_false }
+goes Way.Ready a p = record { state = refl; pending = refl; gone_out = refl; contract = refl; held = refl; start = refl; count = refl; counter = refl; sent = refl; quiet = λ h. refl; alone = λ h. refl }
+goes Way.Declining a p = record { state = refl; pending = refl; gone_out = refl; contract = refl; held = refl; start = refl; count = refl; counter = refl; sent = refl; quiet = true_not_false; alone = true_not_false }
+goes Way.Refusing a p = record { state = refl; pending = refl; gone_out = refl; contract = refl; held = refl; start = refl; count = refl; counter = refl; sent = refl; quiet = true_not_false; alone = true_not_false }
+goes Way.Waiting a p = record { state = refl; pending = refl; gone_out = refl; contract = refl; held = refl; start = refl; count = refl; counter = refl; sent = refl; quiet = λ h. refl; alone = λ h. refl }
+goes Way.Soft a p = record { state = refl; pending = refl; gone_out = refl; contract = refl; held = refl; start = refl; count = refl; counter = refl; sent = refl; quiet = true_not_false; alone = true_not_false }
+goes Way.Answering a p = record { state = refl; pending = refl; gone_out = refl; contract = refl; held = refl; start = refl; count = refl; counter = refl; sent = refl; quiet = true_not_false; alone = true_not_false }
+goes Way.Hard a p = record { state = refl; pending = refl; gone_out = refl; contract = refl; held = refl; start = refl; count = refl; counter = refl; sent = refl; quiet = λ h. refl; alone = true_not_false }
+goes Way.HardHeard a p = record { state = refl; pending = refl; gone_out = refl; contract = refl; held = refl; start = refl; count = refl; counter = refl; sent = refl; quiet = λ h. refl; alone = true_not_false }
+goes Way.Default a p = record { state = refl; pending = refl; gone_out = refl; contract = refl; held = refl; start = refl; count = refl; counter = refl; sent = refl; quiet = λ h. refl; alone = λ h. refl }
+goes Way.Detached a p = record { state = refl; pending = refl; gone_out = refl; contract = refl; held = refl; start = refl; count = refl; counter = refl; sent = refl; quiet = λ h. refl; alone = λ h. refl }

@@ -78,14 +78,14 @@ abbrev good_crc4 : List ℕ
 good_crc4 = 0x81 ∷ 0x08 ∷ []
 
 -- its Requests: 5 V with MessageID 0 and with 2; example 7's; and for position 3, which is not offered, with 0 and with 1
-abbrev asks5V : List ℕ
-asks5V = 0x82 ∷ 0x10 ∷ 0x2C ∷ 0xB1 ∷ 0x04 ∷ 0x10 ∷ []
+abbrev asks_5v : List ℕ
+asks_5v = 0x82 ∷ 0x10 ∷ 0x2C ∷ 0xB1 ∷ 0x04 ∷ 0x10 ∷ []
 
-abbrev asks5VLater : List ℕ
-asks5VLater = 0x82 ∷ 0x14 ∷ 0x2C ∷ 0xB1 ∷ 0x04 ∷ 0x10 ∷ []
+abbrev asks_5v_later : List ℕ
+asks_5v_later = 0x82 ∷ 0x14 ∷ 0x2C ∷ 0xB1 ∷ 0x04 ∷ 0x10 ∷ []
 
-abbrev asks9V : List ℕ
-asks9V = 0x82 ∷ 0x12 ∷ 0x2C ∷ 0xB1 ∷ 0x04 ∷ 0x20 ∷ []
+abbrev asks_9v : List ℕ
+asks_9v = 0x82 ∷ 0x12 ∷ 0x2C ∷ 0xB1 ∷ 0x04 ∷ 0x20 ∷ []
 
 abbrev asks_too_high0 : List ℕ
 asks_too_high0 = 0x82 ∷ 0x10 ∷ 0x2C ∷ 0xB1 ∷ 0x04 ∷ 0x30 ∷ []
@@ -144,7 +144,7 @@ abbrev in_disabled : List Call
 in_disabled = attached ++ offers_unheard 50
 
 abbrev in_moving : List Call
-in_moving = in_offer ++ (packet asks5V ∷ event Event.Yes ∷ packet good_crc1 ∷ [])
+in_moving = in_offer ++ (packet asks_5v ∷ event Event.Yes ∷ packet good_crc1 ∷ [])
 
 abbrev in_telling : List Call
 in_telling = in_moving ++ (event Event.SupplyReady ∷ [])
@@ -153,14 +153,14 @@ abbrev in_ready : List Call
 in_ready = in_telling ++ (packet good_crc2 ∷ [])
 
 abbrev in_judge : List Call
-in_judge = in_ready ++ (packet asks9V ∷ [])
+in_judge = in_ready ++ (packet asks_9v ∷ [])
 
 abbrev in_accepting : List Call
 in_accepting = in_judge ++ (event Event.Yes ∷ [])
 
 -- Ready again, with 9 V in force
-abbrev in_ready_at9_v : List Call
-in_ready_at9_v = in_accepting ++ (packet good_crc3 ∷ event Event.SupplyReady ∷ packet good_crc4 ∷ [])
+abbrev in_ready_at_9v : List Call
+in_ready_at_9v = in_accepting ++ (packet good_crc3 ∷ event Event.SupplyReady ∷ packet good_crc4 ∷ [])
 
 abbrev in_declining : List Call
 in_declining = in_ready ++ (packet unsupported1 ∷ [])
@@ -245,7 +245,7 @@ at_yes =
 -- "Accepting, stored 1, held 54,000."
 abbrev pub Example7Answers : Type 0
 Example7Answers =
-    ((step (at in_ready) (packet asks9V)).actions ≡ at_the_request)
+    ((step (at in_ready) (packet asks_9v)).actions ≡ at_the_request)
     × ((step (at in_judge) (event Event.Yes)).actions ≡ at_yes)
     × (on_wire (control_of Types.Accept 3) ≡ 0xA3 ∷ 0x07 ∷ [])
     × (state_of (at in_accepting) ≡ State.Accepting)
@@ -255,17 +255,17 @@ Example7Answers =
 -- "Same packet again: GoodCRC only" (RepeatChangesNothing), and that it meets that claim's conditions
 abbrev pub Example7Repeats : Type 0
 Example7Repeats =
-    (step (at in_accepting) (packet asks9V) ≡ only_good_crc (theirs 1 2) (at in_accepting))
+    (step (at in_accepting) (packet asks_9v) ≡ only_good_crc (theirs 1 2) (at in_accepting))
     × ((only_good_crc (theirs 1 2) (at in_accepting)).actions.good_crc.bytes ≡ 0xA1 ∷ 0x03 ∷ [])
-    × (read_of asks9V ≡ Reading.Message 1 (theirs 1 2))
+    × (read_of asks_9v ≡ Reading.Message 1 (theirs 1 2))
     × (listens (state_of (at in_accepting)) ≡ true)
     × (is_repeat (at in_accepting).channel 1 ≡ true)
     × (aside (meaning_in 1 (theirs 1 2)) ≡ false)
 
--- ---- Requests: one that fits (AcceptExactly.comes-to-ask, SlipsOfTheOldFirmware.judged-by-the-last-offer), one that does not (UnfitIsRejected)
+-- ---- Requests: one that fits (AcceptExactly.comes_to_ask, SlipsOfTheOldFirmware.judged_by_the_last_offer), one that does not (UnfitIsRejected)
 abbrev pub Requests : Type 0
 Requests =
-    FittingRequest (at in_ready) asks9V
+    FittingRequest (at in_ready) asks_9v
     × New (at in_offer) asks_too_high0 1 (theirs 0 2) Meaning.Request
     × (awaits_request (state_of (at in_offer)) ≡ true)
     × (fits 1 (first_object (part_of asks_too_high0)) (at in_offer).last ≡ false)
@@ -333,13 +333,13 @@ FewerAndFifty =
 -- old power is kept: 9 V in force, 5 V asked and approved
 abbrev pub OldPowerIsKept : Type 0
 OldPowerIsKept =
-    (state_of (at in_ready_at9_v) ≡ State.Ready)
-    × ((at in_ready_at9_v).power.contract ≡ Contract.Made (record { position = 2; voltage = 180; current = 300; worth = 54000 }))
-    × ((at in_ready_at9_v).power.held ≡ 54000)
-    × (state_of (at (in_ready_at9_v ++ (packet asks5VLater ∷ event Event.Yes ∷ []))) ≡ State.Accepting)
-    × ((step (at (in_ready_at9_v ++ (packet asks5VLater ∷ []))) (event Event.Yes)).held ≡ Change.Accepted)
-    × ((at (in_ready_at9_v ++ (packet asks5VLater ∷ event Event.Yes ∷ []))).power.accepted.worth ≡ 30000)
-    × ((at (in_ready_at9_v ++ (packet asks5VLater ∷ event Event.Yes ∷ []))).power.held ≡ 54000)
+    (state_of (at in_ready_at_9v) ≡ State.Ready)
+    × ((at in_ready_at_9v).power.contract ≡ Contract.Made (record { position = 2; voltage = 180; current = 300; worth = 54000 }))
+    × ((at in_ready_at_9v).power.held ≡ 54000)
+    × (state_of (at (in_ready_at_9v ++ (packet asks_5v_later ∷ event Event.Yes ∷ []))) ≡ State.Accepting)
+    × ((step (at (in_ready_at_9v ++ (packet asks_5v_later ∷ []))) (event Event.Yes)).held ≡ Change.Accepted)
+    × ((at (in_ready_at_9v ++ (packet asks_5v_later ∷ event Event.Yes ∷ []))).power.accepted.worth ≡ 30000)
+    × ((at (in_ready_at_9v ++ (packet asks_5v_later ∷ event Event.Yes ∷ []))).power.held ≡ 54000)
 
 -- a Soft_Reset with the MessageID that is stored: in Ready, and in Accepting, where it leads to Hard
 abbrev pub SoftResetsLikeRepeats : Type 0
@@ -428,7 +428,7 @@ pub record Worked : Type 0 where
   pub soft_resets_like_repeats : SoftResetsLikeRepeats
   pub a_dropped_retry : ADroppedRetry
   pub three_standings : ThreeStandings
-  pub gone_out_lem : GoneOut
+  pub gone_out : GoneOut
   pub not_gone_out : NotGoneOut
   pub in_soft_lem : InSoft
   pub asks_for_the_offer : AsksForTheOffer
@@ -458,7 +458,7 @@ worked =
       soft_resets_like_repeats = (refl, refl, refl, refl, refl, refl, refl, refl, refl, refl, refl);
       a_dropped_retry = (refl, refl, refl, refl);
       three_standings = (refl, refl, refl, refl);
-      gone_out_lem = (refl, refl, refl, refl);
+      gone_out = (refl, refl, refl, refl);
       not_gone_out = (refl, refl, refl, refl, refl, refl, refl, refl, refl);
       in_soft_lem = (refl, refl, record { read = refl; listening = refl; meaning = refl; fresh = refl });
       asks_for_the_offer = (

@@ -16,7 +16,7 @@ pub record ToOffer (o : Offer) (a : Answer) : Type 0 where
   pub sent : a.actions.transmit ≡ data_of Types.SourceCapabilities a.port.channel.counter o.objects o.count
   pub newest : a.port.newest ≡ o
   pub last : a.port.last ≡ o
-  pub gone_out_lem : a.port.gone_out ≡ true
+  pub gone_out : a.port.gone_out ≡ true
 
 -- "Soft: counter 0, stored cleared, transmit Soft_Reset"
 pub record ToSoft (a : Answer) : Type 0 where

@@ -113,7 +113,7 @@ pub record Worked : Type 0 where
       (power_rule desk 2 (asks (at desk 2).port Desk.for36000) ≡ true)
       × (power_rule desk 2 (asks (at desk 2).port Desk.for36180) ≡ false)
       × (asks (at desk 2).port Desk.for30000 ≡ 30000)
-  -- AcceptExactly.accepted-only-so, Neighbours: an answer that accepts, a port that has asked, and one that has not
+  -- AcceptExactly.accepted_only_so, Neighbours: an answer that accepts, a port that has asked, and one that has not
   pub answers :
       ((answer_at desk 2 (packet Desk.for36000)).held ≡ Change.Accepted)
       × (has_asked (at desk 2).port (own_answer desk 2 (packet Desk.for36000)).port ≡ true)
