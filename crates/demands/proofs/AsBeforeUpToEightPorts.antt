@@ -6,10 +6,10 @@ use mathlib.Core.Path.{◌≡◌, refl, sym, ap, subst, ◌∙◌}
 use mathlib.Core.Bool.{Bool, true, false, cond, ◌&&◌}
 use mathlib.Core.List.{List, [], ◌∷◌}
 use lib.Dec.{leb}
-use borrow.Author.Tests.{leb-true, le-leb}
+use borrow.Author.Tests.{leb-true}
 use Rattle.ground.specs.declared.Refusal.TheVariants.{NotInRack}
 use Rattle.rack.specs.declared.Rack.{Rack}
-use Rattle.rack.specs.Ports.{ports_in, in_rack, place_of, others}
+use Rattle.rack.specs.Ports.{in_rack, place_of, others}
 use Rattle.rack.specs.Steps.{Happening, answer_at, if_in_rack, refused_by, step}
 use Rattle.rack.specs.Runs.{Happens, run_by}
 use Rattle.setup.specs.declared.SetUp.{SetUp}
@@ -19,24 +19,18 @@ use Rattle.rackclaims.specs.History.{history_by}
 use Rattle.rackclaims.proofs.Neighbours.{count_stays}
 use Rattle.demands.specs.Programs.{rack_now, history}
 use Rattle.demands.specs.Ours.{ours}
-use Rattle.demands.specs.Limits.{ports_up_to, answer_up_to, good_up_to}
+use Rattle.demands.specs.Limits.{answer_up_to}
 use Rattle.demands.specs.WrongPrograms.{stays_at_eight_ports}
 use Rattle.demands.proofs.AnswerAlike.{Alike, lead_alike}
+use Rattle.demands.proofs.SmallRacks.{same_judgement, same_ports}
 
 -- ---- a set-up
-same_judgement : (u : SetUp) → u.count ≤ 8 → u.supply ≤ 1600000 → good_up_to 8 1600000 u ≡ good_set_up u
-unfolding good_set_up
-same_judgement u few small = rw (le-leb u.count 8 few, le-leb u.count 32 (omega (arith, few)), le-leb u.supply 1600000 small, le-leb u.supply 6400000 (omega (arith, small))) refl
-
 -- THE CLAIM: of any set-up of at most 8 ports and 1,600,000 units
 pub set_up_as_before : (u : SetUp) → u.count ≤ 8 → u.supply ≤ 1600000 → stays_at_eight_ports.accepted_set_up u ≡ ours.accepted_set_up u
 unfolding accepted_set_up
 set_up_as_before u few small = ap (λ (good : Bool). judged good u) (same_judgement u few small)
 
 -- ---- an event
-same_ports : (r : Rack) → r.count ≤ 8 → ports_up_to 8 r ≡ ports_in r
-same_ports r few = omega (arith, few)
-
 in_its_place : (here : Bool) (r : Rack) (i : ℕ) (h : Happening) → r.count ≤ 8 → cond here (answer_up_to 8 r i h) (refused_by NotInRack r) ≡ if_in_rack here r i h
 unfolding answer_at others
 in_its_place true r i h few = rw (same_ports r few) refl

@@ -8,7 +8,9 @@ pub mod Demand1
 pub mod Demand2
 pub mod Demand3
 pub mod AnswerAlike
+pub mod AnswersWithoutMismatch
 pub mod AsBeforeWithoutMismatch
+pub mod SmallRacks
 pub mod AsBeforeUpToEightPorts
 pub mod ThirtyTwoPorts
 pub mod WorkedRequests

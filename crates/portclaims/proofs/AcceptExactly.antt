@@ -4,7 +4,7 @@
 use Prim.Native.Nat.{ℕ, max}
 use mathlib.Core.Path.{◌≡◌, refl, sym, subst, ◌∙◌}
 use mathlib.Core.Bool.{Bool, true, false, not, cond, ◌&&◌}
-use mathlib.Core.List.{List, [], ◌∷◌}
+use mathlib.Core.List.{List}
 use lib.Dec.{T, eqb}
 use Rattle.message.specs.declared.Fields.{Fields}
 use Rattle.message.specs.Types as Types
@@ -44,7 +44,7 @@ use Rattle.port.specs.Packets.{first_object, meaning_in, heard_as, requested, as
 use Rattle.port.specs.Calls.{Call, event, packet, step}
 use Rattle.portclaims.specs.Awaited.{awaits_request}
 use Rattle.portclaims.specs.Between.{implies}
-use Rattle.portclaims.proofs.Groups.{one_stimulus_of}
+use Rattle.portclaims.proofs.Groups.{is_yes}
 use Rattle.portclaims.proofs.Truth.{true_not_false, then, and, first, second, not_true, not_false}
 use Rattle.portclaims.proofs.Led.{turn_state, led_state, at_way, is_same}
 use Rattle.portclaims.proofs.Ways as Ways
@@ -271,9 +271,6 @@ module _ (p : Port) (judging : state_of p ≡ State.Judge) where
   no_rejects = rw judging (refl, refl, refl, refl)
 
 -- ---- and only at yes
-abbrev is_yes : Stimulus → Bool
-is_yes e = one_stimulus_of (Stimulus.Yes ∷ []) e
-
 abbrev accept_test : State → Stimulus → Lead → Bool
 accept_test s e Refuse = true
 accept_test s e (To way) = implies (not (same s State.Accepting) && same (Ways.state_after (Tables.ruled_state e s) way) State.Accepting) (same s State.Judge && is_yes e)

@@ -1,10 +1,12 @@
--- Ways and stimuli told apart, and the groups of them that the claims speak of. Assumes nothing.
+-- Ways and stimuli told apart, and the groups of them, and of states, that the claims speak of. Assumes nothing.
 use Prim.Native.Nat.{ℕ}
 use mathlib.Core.Bool.{Bool, false, ◌||◌}
 use mathlib.Core.List.{List, [], ◌∷◌}
 use lib.Dec.{eqb}
+use Rattle.source.specs.declared.State.{State}
 use Rattle.source.specs.declared.Stimulus.{Stimulus}
 use Rattle.source.specs.declared.Way.{Way}
+use Rattle.source.specs.States.{same}
 
 abbrev way_code : Way → ℕ
 way_code Way.Stay = 0
@@ -73,3 +75,11 @@ ends e = one_stimulus_of (Stimulus.Acknowledged ∷ Stimulus.Failed ∷ []) e
 -- those that are the expiry of a timer that is started and stopped
 abbrev pub expiring : Stimulus → Bool
 expiring e = one_stimulus_of (Stimulus.SenderResponse ∷ Stimulus.SourceCapability ∷ Stimulus.PsHardReset ∷ []) e
+
+-- the one at which a port accepts
+abbrev pub is_yes : Stimulus → Bool
+is_yes e = one_stimulus_of (Stimulus.Yes ∷ []) e
+
+-- ---- states: "In these three, any new packet (Soft_Reset too, our stricter rule)"
+abbrev pub is_stricter : State → Bool
+is_stricter s = same s State.Accepting || (same s State.Moving || same s State.Telling)

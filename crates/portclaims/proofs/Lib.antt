@@ -11,9 +11,11 @@ pub mod Between
 pub mod AcceptExactly
 pub mod Transmissions
 pub mod CountsOneOn
+pub mod CounterAtRest
 pub mod NothingElseCounts
 pub mod HeldByChange
 pub mod SlipsOfTheOldFirmware
+pub mod TimerAfter
 pub mod TimerByActions
 pub mod NeverSleeps
 pub mod FailedSends
@@ -21,6 +23,7 @@ pub mod OffersGoOut
 pub mod UnfitIsRejected
 pub mod MismatchSaysNothingMore
 pub mod OfferCount
+pub mod DisabledAfterFifty
 pub mod NothingLoose
 pub mod Witnesses
 pub mod ObjectsReadBack

@@ -2,7 +2,7 @@
 use Prim.Native.Nat.{ℕ, ◌≤◌}
 use native.Mathlib.Omega.{arith}
 use mathlib.Core.Path.{◌≡◌, refl, sym, ap, ◌∙◌}
-use mathlib.Core.Bool.{Bool, true, false, not, ◌&&◌, ◌||◌}
+use mathlib.Core.Bool.{Bool, true, false, not, ◌&&◌}
 use mathlib.Core.List.{List}
 use lib.Dec.{T, ltb, leb}
 use Rattle.message.specs.declared.Fields.{Fields}
@@ -38,7 +38,7 @@ use Rattle.port.specs.Steps.{turn, happens, failed, nothing_done, resent, event_
 use Rattle.port.specs.Packets.{first_object, meaning_in, crc_for, heard_as, other_packet, new_packet, by_meaning, message_of, packet_of}
 use Rattle.port.specs.Calls.{Call, event, packet, step}
 use Rattle.portclaims.specs.Between.{implies, is_reset, Between}
-use Rattle.portclaims.proofs.Groups.{is_sending}
+use Rattle.portclaims.proofs.Groups.{is_sending, is_stricter}
 use Rattle.portclaims.proofs.Truth.{true_not_false, then, first, not_true}
 use Rattle.portclaims.proofs.Ways as Ways
 use Rattle.portclaims.proofs.Led.{at_way, is_same}
@@ -105,10 +105,6 @@ pub judged_by_no_other_offer : (p : Port) (o : Offer) (s : List ℕ) → same (s
 judged_by_no_other_offer p o s elsewhere e = fits_as_before p o s (the_packet (replaced p o) s (asks_only_so (replaced p o) elsewhere (packet s) e))
 
 -- ---- "Soft_Reset taken for a repeat."
--- "In these three, any new packet (Soft_Reset too, our stricter rule)"
-abbrev pub is_stricter : State → Bool
-is_stricter s = same s State.Accepting || (same s State.Moving || same s State.Telling)
-
 -- every other state that listens
 abbrev pub answers_soft_reset : State → Bool
 answers_soft_reset s = listens s && not (is_stricter s)

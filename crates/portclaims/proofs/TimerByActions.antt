@@ -4,8 +4,7 @@ use mathlib.Core.Path.{◌≡◌, refl, sym}
 use mathlib.Core.Bool.{Bool, true, false, cond, ◌&&◌}
 use mathlib.Core.List.{List}
 use lib.Dec.{T, eqb}
-use Rattle.ground.specs.declared.Verdict.{Verdict}
-use Rattle.ground.specs.declared.Verdict.TheVariants.{Fine, Refused}
+use Rattle.ground.specs.declared.Verdict.TheVariants.{Fine}
 use Rattle.offers.specs.declared.Asked.{Asked}
 use Rattle.channel.specs.Channel.{again as once-again, heard as hears}
 use Rattle.power.specs.declared.Change.{Change}
@@ -38,26 +37,7 @@ use Rattle.portclaims.proofs.Ways as Ways
 use Rattle.portclaims.proofs.Tables as Tables
 use Rattle.portclaims.proofs.Led.{ruled, turn_state, turn_pending, led_state, at_way}
 use Rattle.portclaims.proofs.Shapes.{Rule, fit_in, is_expiry, Shape, refused, idle, again as sent_again, led, heard, shape}
-
--- ---- the timer by what was done: one that expired or was stopped no longer runs, one that was started does
-abbrev begun : Timer → Timer → Timer
-begun NoTimer t = t
-begun SenderResponse t = SenderResponse
-begun SourceCapability t = SourceCapability
-begun PsHardReset t = PsHardReset
-
-abbrev halted : Timer → Timer → Timer
-halted NoTimer t = t
-halted SenderResponse t = NoTimer
-halted SourceCapability t = NoTimer
-halted PsHardReset t = NoTimer
-
-abbrev is_fine : Verdict → Bool
-is_fine Fine = true
-is_fine (Refused r) = false
-
-abbrev pub timer_after : Timer → Call → Answer → Timer
-timer_after t c a = begun a.actions.start (halted a.actions.stop (cond (is_expiry c && is_fine a.verdict) NoTimer t))
+use Rattle.portclaims.proofs.TimerAfter.{begun, halted, timer_after}
 
 abbrev code_of : Timer → ℕ
 code_of NoTimer = 0

@@ -48,7 +48,8 @@ use Rattle.portclaims.specs.OfferCount.{offers_since}
 use Rattle.portclaims.specs.Repeats.{only_good_crc, aside}
 use Rattle.portclaims.proofs.Shapes.{New}
 use Rattle.portclaims.proofs.AcceptExactly.{FittingRequest}
-use Rattle.portclaims.proofs.SlipsOfTheOldFirmware.{is_stricter, answers_soft_reset}
+use Rattle.portclaims.proofs.Groups.{is_stricter}
+use Rattle.portclaims.proofs.SlipsOfTheOldFirmware.{answers_soft_reset}
 
 -- ---- offers: both objects, and 5 V 1 A alone, after which a contract for 3 A no longer stands
 abbrev both : Offer

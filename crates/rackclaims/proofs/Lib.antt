@@ -1,4 +1,5 @@
 pub mod OwnSteps
+pub mod Steady
 pub mod Settling
 pub mod Neighbours
 pub mod RefusedChangesNothing

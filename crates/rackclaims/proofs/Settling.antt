@@ -27,6 +27,7 @@ use Rattle.slot.specs.Load.{approves}
 use Rattle.slot.specs.Answers.{has_asked, judged, settled}
 use Rattle.rackclaims.proofs.OwnSteps.{is_in_hand, own, no_more, at_yes_lem, at_no}
 use Rattle.offers.specs.declared.Offer.{Offer}
+pub use Rattle.rackclaims.proofs.Steady.{Steady}
 
 -- what a Request in the bytes s asks of a port, in units
 abbrev pub asks : Port → List ℕ → ℕ
@@ -81,12 +82,6 @@ module _ (s : Slot) (others supply : ℕ) (elsewhere : same (state_of s.port) St
   settles c = by_asking c (has_asked s.port (step s.port c).port) refl
 
 -- ---- what is kept
--- a port of the rack between events: it does not stand in Judge, and holds what it has accepted and not yet put in force
-pub record Steady (p : Port) : Type 0 where
-  pub between : Between p
-  pub elsewhere : same (state_of p) State.Judge ≡ false
-  pub promised : is_in_hand (state_of p) ≡ true → p.power.accepted.worth ≤ p.power.held
-
 pub steady_first : (o : Offer) → Steady (detached_port o)
 steady_first o = record { between = at_first o; elsewhere = refl; promised = λ h. true_not_false (sym h) }
 
