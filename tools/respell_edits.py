@@ -1,5 +1,5 @@
 #!/usr/bin/env python3
-"""Brings the edits of must-fail/ and more-lies/ to today's spelling: python3 tools/respell_edits.py   (at the top; it says what it leaves)
+"""Brings the edits of must-fail/ and more-lies/ to today's spelling: python3 tools/respell_edits.py   (once, at the top, after respell.py; it says what it leaves)
 
 Each edit is read as it was at the commit that docs/PORT.md names first, with the line that its `old:` text stood in. Names become snake case, a
 projection is written tight (`r .count` is `r.count`, `at r i .port` is `(at r i).port`), and what else today's line spells otherwise is spelled so in
