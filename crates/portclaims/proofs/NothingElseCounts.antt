@@ -7,7 +7,8 @@ use Rattle.port.specs.Memory.{pending_in}
 use Rattle.port.specs.Calls.{Call, step}
 use Rattle.portclaims.specs.Between.{Between}
 use Rattle.portclaims.proofs.Shapes.{shape}
-use Rattle.portclaims.proofs.CounterAtRest.{Rests, by_shape}
+use Rattle.portclaims.proofs.CounterAtRest.{by_shape}
+pub use Rattle.portclaims.proofs.CounterAtRest.{Rests}
 
 module _ (p : Port) (k : Between p) (none : pending_in p ≡ false) where
   -- THE CLAIM

@@ -38,7 +38,8 @@ use Rattle.port.specs.Steps.{turn, happens, failed, nothing_done, resent, event_
 use Rattle.port.specs.Packets.{first_object, meaning_in, crc_for, heard_as, other_packet, new_packet, by_meaning, message_of, packet_of}
 use Rattle.port.specs.Calls.{Call, event, packet, step}
 use Rattle.portclaims.specs.Between.{implies, is_reset, Between}
-use Rattle.portclaims.proofs.Groups.{is_sending, is_stricter}
+use Rattle.portclaims.proofs.Groups.{is_sending}
+pub use Rattle.portclaims.proofs.Groups.{is_stricter}
 use Rattle.portclaims.proofs.Truth.{true_not_false, then, first, not_true}
 use Rattle.portclaims.proofs.Ways as Ways
 use Rattle.portclaims.proofs.Led.{at_way, is_same}
@@ -105,7 +106,7 @@ pub judged_by_no_other_offer : (p : Port) (o : Offer) (s : List ℕ) → same (s
 judged_by_no_other_offer p o s elsewhere e = fits_as_before p o s (the_packet (replaced p o) s (asks_only_so (replaced p o) elsewhere (packet s) e))
 
 -- ---- "Soft_Reset taken for a repeat."
--- every other state that listens
+-- every state that listens, but for those three (Groups.is_stricter)
 abbrev pub answers_soft_reset : State → Bool
 answers_soft_reset s = listens s && not (is_stricter s)
 

@@ -37,7 +37,8 @@ use Rattle.portclaims.proofs.Ways as Ways
 use Rattle.portclaims.proofs.Tables as Tables
 use Rattle.portclaims.proofs.Led.{ruled, turn_state, turn_pending, led_state, at_way}
 use Rattle.portclaims.proofs.Shapes.{Rule, fit_in, is_expiry, Shape, refused, idle, again as sent_again, led, heard, shape}
-use Rattle.portclaims.proofs.TimerAfter.{begun, halted, timer_after}
+use Rattle.portclaims.proofs.TimerAfter.{begun, halted}
+pub use Rattle.portclaims.proofs.TimerAfter.{timer_after}
 
 abbrev code_of : Timer → ℕ
 code_of NoTimer = 0
