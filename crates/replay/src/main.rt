@@ -25,7 +25,7 @@ struct Turn {
 fn begun(to: Stdout) -> Turn {
     let rack = input::no_rack();
     let told = Told {
-        to: to,
+        to,
         events: 0,
         end: 0,
         written: true,

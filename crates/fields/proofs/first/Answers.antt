@@ -2,7 +2,6 @@ use mathlib.Core.Path.{◌∙◌}
 use Rattle.fields.proofs.Answers.{as_found}
 use Rattle.fields.proofs.first.Goals as goal
 
--- paired by order
 pub returns-in-Cut : goal.returns-in-Cut
 returns-in-Cut c = c.unread.ensures ∙ rw c.in-Cut.is (as_found _ _ _ _ c.next-found.ensures c.in-Cut.is)
 

@@ -1,7 +1,6 @@
 use Rattle.hearing.specs.Packets.{on_packet}
 use Rattle.hearing.proofs.packet_leads.Goals as goal
 
--- paired by order
 pub returns-in-Detached : goal.returns-in-Detached
 unfolding on_packet
 returns-in-Detached c = rw c.in-Detached.is

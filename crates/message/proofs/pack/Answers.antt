@@ -13,5 +13,4 @@ bit_fits false = refl
 pub returns : goal.returns
 unfolding header_of
 returns c =
-    let start = c in
-    rw (c.wide-6.ensures.0, c.wide-5.ensures.0, c.wide-4.ensures.0, c.wide-3.ensures.0, c.wide-2.ensures.0, c.wide.ensures.0, c.bit.ensures.0, bit_fits start.args.f.extended, mul-one (start.args.f.message_type % 32))
+    rw (c.wide-6.ensures.0, c.wide-5.ensures.0, c.wide-4.ensures.0, c.wide-3.ensures.0, c.wide-2.ensures.0, c.wide.ensures.0, c.bit.ensures.0, bit_fits c.args.f.extended, mul-one (c.args.f.message_type % 32))

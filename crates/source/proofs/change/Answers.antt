@@ -1,7 +1,6 @@
 use Rattle.source.specs.Changes.{change_of}
 use Rattle.source.proofs.change.Goals as goal
 
--- paired by order
 pub returns-in-Attach : goal.returns-in-Attach
 unfolding change_of
 returns-in-Attach c = rw c.in-Attach.is

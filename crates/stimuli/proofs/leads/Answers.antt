@@ -1,7 +1,6 @@
 use Rattle.stimuli.specs.Leads.{leads}
 use Rattle.stimuli.proofs.leads.Goals as goal
 
--- paired by order
 pub returns-in-Attach : goal.returns-in-Attach
 unfolding leads
 returns-in-Attach c = rw c.in-Attach.is c.on_attach.ensures

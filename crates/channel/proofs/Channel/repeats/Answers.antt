@@ -1,7 +1,6 @@
 use Rattle.channel.specs.Channel.{is_repeat}
 use Rattle.channel.proofs.Channel.repeats.Goals as goal
 
--- paired by order
 pub returns-in-Nothing : goal.returns-in-Nothing
 unfolding is_repeat
 returns-in-Nothing c = rw c.in-Nothing.is

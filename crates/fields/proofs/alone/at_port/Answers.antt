@@ -3,7 +3,6 @@ use Rattle.port.specs.Calls as Port
 use Rattle.fields.proofs.PortAlone.{as_found}
 use Rattle.fields.proofs.alone.at_port.Goals as goal
 
--- paired by order
 pub returns-in-Cut : goal.returns-in-Cut
 unfolding Port.step
 returns-in-Cut c = c.elsewhere.ensures ∙ as_found _ _ _ _ _ c.next-found.ensures c.in-Cut.is

@@ -5,7 +5,6 @@ use Rattle.plan.specs.declared.Met.{Met}
 use Rattle.plan.specs.Plans.{plan_by, plan_of}
 use Rattle.plan.proofs.deciding.decided.Goals as goal
 
--- paired by order
 by_cue : (p : Port) (m : Met) (k : Cue) → m.cue ≡ k → plan_by k p m ≡ plan_of p m
 unfolding plan_of
 by_cue p m k e = rw (← e) refl

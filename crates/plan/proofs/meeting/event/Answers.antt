@@ -2,7 +2,6 @@ use mathlib.Core.Path.{◌∙◌}
 use Rattle.plan.specs.Plans.{met_event}
 use Rattle.plan.proofs.meeting.event.Goals as goal
 
--- paired by order
 pub returns-in-Attach : goal.returns-in-Attach
 unfolding met_event
 returns-in-Attach c = rw c.in-Attach.is c.meets.ensures

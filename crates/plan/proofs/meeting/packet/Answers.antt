@@ -2,7 +2,6 @@ use mathlib.Core.Path.{◌∙◌}
 use Rattle.plan.specs.Plans.{met_packet}
 use Rattle.plan.proofs.meeting.packet.Goals as goal
 
--- paired by order
 pub returns-in-Message : goal.returns-in-Message
 unfolding met_packet
 returns-in-Message c = c.message.ensures ∙ rw (c.first_object.ensures, c.objects.ensures.bytes, ← c.read-r.ensures, c.in-Message.is)

@@ -1,7 +1,6 @@
 use Rattle.port.specs.Packets.{by_meaning}
 use Rattle.port.proofs.Port.by_meaning.Goals as goal
 
--- paired by order
 pub returns-in-Unsupported : goal.returns-in-Unsupported
 unfolding by_meaning
 returns-in-Unsupported c = rw c.in-Unsupported.is c.other_packet.ensures

@@ -1,7 +1,6 @@
 use Rattle.port.specs.Steps.{by_outcome}
 use Rattle.port.proofs.Port.by_outcome.Goals as goal
 
--- paired by order
 pub returns-in-NonePending : goal.returns-in-NonePending
 unfolding by_outcome
 returns-in-NonePending c = rw c.in-NonePending.is

@@ -2,7 +2,6 @@ use mathlib.Core.Path.{◌∙◌}
 use Rattle.port.specs.Entering.{enter}
 use Rattle.port.proofs.Port.enter.Goals as goal
 
--- paired by order
 pub returns-in-Stay : goal.returns-in-Stay
 unfolding enter
 returns-in-Stay c = rw c.in-Stay.is c.starts.ensures

@@ -2,7 +2,6 @@ use mathlib.Core.Path.{◌∙◌}
 use Rattle.port.specs.Steps.{event_of}
 use Rattle.port.proofs.Port.event.Goals as goal
 
--- paired by order
 pub returns-in-Attach : goal.returns-in-Attach
 unfolding event_of
 returns-in-Attach c = c.happens.ensures ∙ rw (c.runs.ensures, c.cleared.ensures, c.in-Attach.is)

@@ -1,7 +1,6 @@
 use Rattle.port.specs.Steps.{happens}
 use Rattle.port.proofs.Port.happens.Goals as goal
 
--- paired by order
 pub returns-in-Refuse : goal.returns-in-Refuse
 unfolding happens
 returns-in-Refuse c = rw (← c.facts.ensures, ← c.leads-lead.ensures, c.in-Refuse.is) c.refused.ensures

@@ -1,7 +1,6 @@
 use Rattle.port.specs.Packets.{new_packet}
 use Rattle.port.proofs.Port.new_packet.Goals as goal
 
--- paired by order
 pub returns-in-Refuse : goal.returns-in-Refuse
 unfolding new_packet
 returns-in-Refuse c = rw (← c.heard_as.ensures, ← c.packet_leads-lead.ensures, c.in-Refuse.is) c.refused.ensures

@@ -2,7 +2,6 @@ use mathlib.Core.Path.{◌∙◌}
 use Rattle.port.specs.Packets.{packet_of}
 use Rattle.port.proofs.Port.packet.Goals as goal
 
--- paired by order
 pub returns-in-Message : goal.returns-in-Message
 unfolding packet_of
 returns-in-Message c = c.message.ensures ∙ rw (c.judge-fit.ensures, c.first_object-request.ensures, c.objects.ensures.bytes, ← c.read-r.ensures, c.in-Message.is)

@@ -1,7 +1,6 @@
 use Rattle.port.specs.Packets.{heard_as}
 use Rattle.port.proofs.packets.heard_as.Goals as goal
 
--- paired by order
 pub returns-in-Unsupported : goal.returns-in-Unsupported
 unfolding heard_as
 returns-in-Unsupported c = rw c.in-Unsupported.is

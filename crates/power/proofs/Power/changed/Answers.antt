@@ -1,7 +1,6 @@
 use Rattle.power.specs.Power.{changed}
 use Rattle.power.proofs.Power.changed.Goals as goal
 
--- paired by order
 pub returns-in-Nothing : goal.returns-in-Nothing
 unfolding changed
 returns-in-Nothing c = rw c.in-Nothing.is

@@ -1,7 +1,6 @@
 use Rattle.power.specs.Power.{standing_of}
 use Rattle.power.proofs.Power.standing.Goals as goal
 
--- paired by order
 pub returns-in-Nothing : goal.returns-in-Nothing
 unfolding standing_of
 returns-in-Nothing c = rw c.in-Nothing.is

@@ -1,7 +1,6 @@
 use Rattle.tally.specs.Counts.{set_up_told}
 use Rattle.tally.proofs.Tally.set_up_told.Goals as goal
 
--- paired by order
 pub returns-in-Fine : goal.returns-in-Fine
 unfolding set_up_told
 returns-in-Fine c = rw (c.mixed.ensures, c.verdict_number-k.ensures.0, c.in-Fine.is)
