@@ -4,9 +4,9 @@ use Rattle.message.specs.Header.{fields_of}
 use Rattle.message.specs.Bytes.{word_of}
 use Rattle.outgoing.specs.declared.Packet.{Packet}
 use Rattle.outgoing.specs.Packets.{no_packet}
-use Rattle.channel.specs.declared.Stored.{Stored}
 use Rattle.channel.specs.declared.Pending.{Pending}
 use Rattle.channel.specs.declared.Channel.{Channel}
+use Rattle.std.specs.Prelude.{Some, None, Option}
 
 abbrev pub is_pending : Channel → Bool
 is_pending c = ltb 0 c.pending.packet.length
@@ -15,9 +15,9 @@ is_pending c = ltb 0 c.pending.packet.length
 unfoldable pub pending_id : Channel → ℕ
 pending_id c = (fields_of (word_of c.pending.packet.bytes)).message_id
 
-abbrev pub is_in : Stored → ℕ → Bool
-is_in Stored.Nothing id = false
-is_in (Stored.Id last) id = eqb last id
+abbrev pub is_in : Option ℕ → ℕ → Bool
+is_in None id = false
+is_in (Some last) id = eqb last id
 
 -- "its MessageID is the stored one"
 unfoldable pub is_repeat : Channel → ℕ → Bool
@@ -35,7 +35,7 @@ none_pending = record { packet = no_packet; retries = 0 }
 
 -- zero, none, none
 abbrev pub fresh : Channel
-fresh = record { counter = 0; stored = Stored.Nothing; pending = none_pending }
+fresh = record { counter = 0; stored = None; pending = none_pending }
 
 -- the pending message is acknowledged, has failed, or is dropped: "counter plus one"
 unfoldable pub ended : Channel → Channel
@@ -56,7 +56,7 @@ counter_after false false counter = counter
 
 -- a new packet: "a pending message is dropped, the MessageID is stored"
 unfoldable pub heard : Channel → ℕ → Bool → Channel
-heard c id softReset = record { counter = counter_after softReset (is_pending c) c.counter; stored = Stored.Id id; pending = none_pending }
+heard c id softReset = record { counter = counter_after softReset (is_pending c) c.counter; stored = Some id; pending = none_pending }
 
 -- a message goes out for the first time
 unfoldable pub sends : Channel → Packet → Channel

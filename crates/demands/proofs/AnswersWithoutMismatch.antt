@@ -5,7 +5,6 @@ use mathlib.Core.Path.{◌≡◌, refl, sym, ap}
 use mathlib.Core.Bool.{Bool, true, false, cond, ◌&&◌}
 use mathlib.Core.List.{List}
 use Rattle.ground.specs.declared.Refusal.TheVariants.{NotInRack}
-use Rattle.reading.specs.declared.Reading.{Reading}
 use Rattle.reading.specs.Reading.{read_of, part_of}
 use Rattle.offers.specs.declared.Offer.{Offer}
 use Rattle.offers.specs.Objects.{is_mismatch}
@@ -22,6 +21,10 @@ use Rattle.rack.specs.Steps.{Happening, event, packet, new_offer, own_answer, an
 use Rattle.demands.specs.Ours.{ours}
 use Rattle.demands.specs.Fitting.{both_compared, is_request, judged_by, read_by, own_by, mismatch_in, sets_mismatch}
 use Rattle.demands.specs.WrongPrograms.{hears_no_mismatch}
+use Rattle.reading.specs.Reading.{message_with}
+use Rattle.std.specs.Prelude.{Err, Result}
+use Rattle.reading.specs.declared.Message.{Message}
+use Rattle.ground.specs.declared.Refusal.{Refusal}
 
 -- ---- one Request, one packet, one event
 fit_as_before : (request : Bool) (count r : ℕ) (o : Offer) → (request && is_mismatch r) ≡ false → judged_by both_compared request count r o ≡ fit_of count r o
@@ -29,10 +32,10 @@ unfolding fit_of
 fit_as_before true count r o clear = ap (λ b. judged b (asked r o)) (sym (clear_as_before count r o clear))
 fit_as_before false count r o clear = refl
 
-packet_as_before : (p : Port) (s : List ℕ) (x : Reading) → mismatch_in x s ≡ false → read_by both_compared x p s ≡ read_to x p s
-packet_as_before p s (Reading.Message objects f) clear =
+packet_as_before : (p : Port) (s : List ℕ) (x : Result Message Refusal) → mismatch_in x s ≡ false → read_by both_compared x p s ≡ read_to x p s
+packet_as_before p s (message_with objects f) clear =
     ap (message_of p objects f) (fit_as_before (is_request (meaning_in objects f)) objects (first_object (part_of s)) p.last clear)
-packet_as_before p s (Reading.Refused no') clear = refl
+packet_as_before p s (Err no') clear = refl
 
 own_as_before : (r : Rack) (i : ℕ) (h : Happening) → sets_mismatch h ≡ false → own_by both_compared r i h ≡ own_answer r i h
 unfolding Port.step packet_of

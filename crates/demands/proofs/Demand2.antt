@@ -6,11 +6,9 @@ use mathlib.Core.Bool.{true, false, cond}
 use mathlib.Core.List.{List}
 use lib.Dec.{eqb}
 use lib.ListN.{length}
-use Rattle.ground.specs.declared.Verdict.TheVariants.{Fine}
 use Rattle.message.specs.declared.Fields.{Fields}
 use Rattle.message.specs.Bytes.{bytes_of}
 use Rattle.meaning.specs.declared.Meaning.{Meaning}
-use Rattle.reading.specs.declared.Reading.{Reading}
 use Rattle.reading.specs.Reading.{read_of, part_of}
 use Rattle.reading.proofs.ReadsExactlyMessages.{read_is, part_is, bytes_are}
 use Rattle.writing.specs.Writing.{Wrote, writing_tried}
@@ -46,6 +44,8 @@ use Rattle.demands.specs.Ours.{ours}
 use Rattle.demands.specs.Demand2.{ReadAndWritten, StepsByTheRules, Acceptable, AcceptsExactly, RepeatsChangeNothing, NothingDroppedIsRetried, Demand2}
 use Rattle.demands.proofs.WrittenReadsBack as Written
 use Rattle.demands.proofs.ReadWritesBack as Read
+use Rattle.reading.specs.Reading.{message_with}
+use Rattle.std.specs.Prelude.{Ok}
 
 -- ---- messages
 wrote : (f : Fields) (o buf : List ℕ) (place : ℕ) → Wrote f o buf place (ours.write f o buf place) (ours.buffer f o buf place)
@@ -68,7 +68,7 @@ read_and_written =
     }
 
 -- ---- a port, after an accepted set-up and through any events
-module _ (u : SetUp) (accepted : (accepted_set_up u).verdict ≡ Fine) (es : List Happens) (i : ℕ) (here : i < u.count) where
+module _ (u : SetUp) (accepted : (accepted_set_up u).verdict ≡ Ok tt) (es : List Happens) (i : ℕ) (here : i < u.count) where
   abbrev r : Rack
   r = run (accepted_set_up u).rack es
 
@@ -105,7 +105,7 @@ module _ (u : SetUp) (accepted : (accepted_set_up u).verdict ≡ Fine) (es : Lis
       }
 
   -- ---- Accept, exactly
-  module _ (s : List ℕ) (n : ℕ) (f : Fields) (read : read_of s ≡ Reading.Message n f) (request : meaning_in n f ≡ Meaning.Request) where
+  module _ (s : List ℕ) (n : ℕ) (f : Fields) (read : read_of s ≡ message_with n f) (request : meaning_in n f ≡ Meaning.Request) where
     abbrev worth : ℕ
     worth = (asked (first_object (part_of s)) (at r i).port.last).worth
 

@@ -2,7 +2,6 @@
 use Prim.Native.Nat.{ℕ, suc, ◌<◌}
 use mathlib.Core.Path.{◌≡◌, sym, ap, ◌∙◌}
 use mathlib.Core.List.{List}
-use Rattle.ground.specs.declared.Verdict.TheVariants.{Fine}
 use Rattle.outgoing.specs.Packets.{on_wire}
 use Rattle.portclaims.proofs.AcceptExactly.{fitting_request}
 use Rattle.rack.specs.declared.Rack.{Rack}
@@ -22,8 +21,9 @@ use Rattle.rackclaims.proofs.AcceptExactly.{share_is_accepted}
 use Rattle.rackclaims.proofs.AcceptOnTheWire.{accept_is_sent}
 use Rattle.demands.specs.Ours.{ours}
 use Rattle.demands.specs.Demand3.{SupplyHolds, ShareIsGranted, HistoryIsTrue, Demand3}
+use Rattle.std.specs.Prelude.{Ok}
 
-module _ (u : SetUp) (accepted : (accepted_set_up u).verdict ≡ Fine) (es : List Happens) where
+module _ (u : SetUp) (accepted : (accepted_set_up u).verdict ≡ Ok tt) (es : List Happens) where
   supply : SupplyHolds ours u es
   supply =
       record {

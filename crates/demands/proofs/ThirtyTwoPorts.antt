@@ -5,8 +5,6 @@ use mathlib.Core.Path.{◌≡◌, refl}
 use mathlib.Core.List.{[], ◌∷◌}
 use lib.ListN.{replicate}
 use Rattle.ground.specs.declared.Refusal.TheVariants.{NotInRack, BadSetUp}
-use Rattle.ground.specs.declared.Verdict.{Verdict}
-use Rattle.ground.specs.declared.Verdict.TheVariants.{Fine, Refused}
 use Rattle.offers.specs.declared.Offer.{Offer}
 use Rattle.offers.specs.Offers.{object_at, good_object, good_from, good_offer}
 use Rattle.outgoing.specs.Packets.{data_of}
@@ -22,6 +20,8 @@ use Rattle.rack.specs.Steps.{event, answer_at, step}
 use Rattle.setup.specs.declared.SetUp.{SetUp}
 use Rattle.setup.specs.SetUps.{good_setting, good_set_up, accepted_set_up}
 use Rattle.demands.specs.Ours.{ours}
+use Rattle.ground.specs.Refusals.{Verdict}
+use Rattle.std.specs.Prelude.{Ok, Err}
 
 -- 5 V, 9 V, 10 V, 12 V, 15 V, 18 V and 20 V, each with 5 A
 abbrev seven_objects : Offer
@@ -39,12 +39,12 @@ abbrev attach : ℕ → Verdict
 attach number = (ours.step (ours.accepted_set_up largest).rack number (event Event.Attach)).verdict
 
 pub record Cases : Type 0 where
-  pub set_up_lem : (ours.accepted_set_up largest).verdict ≡ Fine
-  pub last_port : attach 32 ≡ Fine
-  pub past_the_last : (attach 33 ≡ Refused NotInRack) × (attach 255 ≡ Refused NotInRack)
-  pub port_more : ((ours.accepted_set_up (alike 33 30000 6400000)).verdict ≡ Refused BadSetUp) × ((ours.accepted_set_up (alike 255 30000 6400000)).verdict ≡ Refused BadSetUp)
-  pub unit_more : (ours.accepted_set_up (alike 32 30000 6400001)).verdict ≡ Refused BadSetUp
-  pub unit_less : (ours.accepted_set_up (alike 32 200000 6399999)).verdict ≡ Refused BadSetUp
+  pub set_up_lem : (ours.accepted_set_up largest).verdict ≡ Ok tt
+  pub last_port : attach 32 ≡ Ok tt
+  pub past_the_last : (attach 33 ≡ Err NotInRack) × (attach 255 ≡ Err NotInRack)
+  pub port_more : ((ours.accepted_set_up (alike 33 30000 6400000)).verdict ≡ Err BadSetUp) × ((ours.accepted_set_up (alike 255 30000 6400000)).verdict ≡ Err BadSetUp)
+  pub unit_more : (ours.accepted_set_up (alike 32 30000 6400001)).verdict ≡ Err BadSetUp
+  pub unit_less : (ours.accepted_set_up (alike 32 200000 6399999)).verdict ≡ Err BadSetUp
 
 pub cases : Cases
 unfolding object_at good_object good_from good_offer data_of standing_of leads change_of enter turn happens event_of Port.step settled answer_at step good_setting good_set_up accepted_set_up

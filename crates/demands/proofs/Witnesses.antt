@@ -12,11 +12,11 @@ use Rattle.message.specs.declared.Fields.{Fields}
 use Rattle.message.specs.Header.{fields_of, objects_of, header_of, Fits}
 use Rattle.message.specs.Bytes.{AreBytes, bytes_of, word_of, is_chunked}
 use Rattle.message.proofs.Bytes.{are_bytes}
-use Rattle.reading.specs.declared.Reading.{Reading}
 use Rattle.reading.specs.Reading.{read_of, reading_tried, part_of}
-use Rattle.writing.specs.declared.Writing.{Writing}
 use Rattle.writing.specs.Writing.{Wrote, Writable, writing_tried}
 use Rattle.writing.proofs.Fine.{writable}
+use Rattle.reading.specs.Reading.{message_with}
+use Rattle.std.specs.Prelude.{Ok, Err}
 
 abbrev packet : List ℕ
 packet = 0x82 ∷ 0x12 ∷ 0x2C ∷ 0xB1 ∷ 0x04 ∷ 0x20 ∷ []
@@ -34,7 +34,7 @@ abbrev written : List ℕ
 written = 0 ∷ 0x82 ∷ 0x12 ∷ 0x2C ∷ 0xB1 ∷ 0x04 ∷ 0x20 ∷ 7 ∷ []
 
 -- a write that is accepted (WrittenReadsBack.written_reads_back, RefusedWriteChangesNothing.no_other_byte)
-pub a_write : Wrote request objects buffer 1 (Writing.Written 6) written
+pub a_write : Wrote request objects buffer 1 (Ok 6) written
 unfolding writing_tried refuse_if any_of is_chunked word_of bytes_of header_of
 a_write = record { result = refl; buffer = refl }
 
@@ -52,7 +52,7 @@ unfolding header_of
 a_header = (refl, omega arith, omega arith)
 
 -- a packet that is read (ReadWritesBack.read_writes_back)
-pub a_packet : (AreBytes packet) × (read_of packet ≡ Reading.Message 1 request) × (part_of packet ≡ objects)
+pub a_packet : (AreBytes packet) × (read_of packet ≡ message_with 1 request) × (part_of packet ≡ objects)
 unfolding read_of reading_tried part_of refuse_if is_chunked word_of fields_of objects_of
 a_packet = (are_bytes packet tt, refl, refl)
 
@@ -60,11 +60,11 @@ abbrev reserved : Fields
 reserved = record { extended = false; message_id = 0; power_role = 1; revision = 3; data_role = 0; message_type = 1 }
 
 -- the reserved revision is read (ReadWritesBack.reserved_never_written)
-pub a_reserved_packet : read_of (0xC1 ∷ 0x01 ∷ []) ≡ Reading.Message 0 reserved
+pub a_reserved_packet : read_of (0xC1 ∷ 0x01 ∷ []) ≡ message_with 0 reserved
 unfolding read_of reading_tried refuse_if is_chunked word_of fields_of objects_of
 a_reserved_packet = refl
 
 -- and its writing is refused (RefusedWriteChangesNothing.refused_changes_nothing)
-pub a_refused_write : Wrote reserved [] buffer 1 (Writing.Refused OutOfRange) buffer
+pub a_refused_write : Wrote reserved [] buffer 1 (Err OutOfRange) buffer
 unfolding writing_tried refuse_if any_of
 a_refused_write = record { result = refl; buffer = refl }

@@ -12,7 +12,6 @@ use Rattle.message.specs.Header.{fields_of, objects_of, header_of}
 use Rattle.message.specs.Bytes.{word_of, is_chunked, bytes_of}
 use Rattle.meaning.specs.declared.Meaning.{Meaning}
 use Rattle.meaning.specs.Meaning.{meaning_of}
-use Rattle.reading.specs.declared.Reading.{Reading}
 use Rattle.reading.specs.Reading.{read_of, reading_tried, part_of}
 use Rattle.offers.specs.Objects.{position_of, is_mismatch, operating_of, maximum_of}
 use Rattle.offers.specs.Offers.{object_at, good_object, good_from, good_offer}
@@ -45,6 +44,7 @@ use Rattle.demands.specs.Ours.{ours}
 use Rattle.demands.specs.Demand2.{Acceptable}
 use Rattle.demands.specs.StarredExamples.{answer_of}
 use Rattle.demands.specs.Fitting.{sets_mismatch, NoneSetsIt}
+use Rattle.reading.specs.Reading.{message_with}
 
 -- what came before, and the rack as it then is
 abbrev events : List Happens
@@ -57,7 +57,7 @@ now' = rack_now ours Desk.night_desk events
 abbrev pub first : Fields
 first = record { extended = false; message_id = 0; power_role = 0; revision = 2; data_role = 0; message_type = 2 }
 
-pub read : (read_of Desk.for36000 ≡ Reading.Message 1 first) × (read_of Desk.for30000 ≡ Reading.Message 1 first) × (meaning_in 1 first ≡ Meaning.Request)
+pub read : (read_of Desk.for36000 ≡ message_with 1 first) × (read_of Desk.for30000 ≡ message_with 1 first) × (meaning_in 1 first ≡ Meaning.Request)
 unfolding read_of reading_tried refuse_if word_of fields_of objects_of is_chunked meaning_in meaning_of
 read = (refl, refl, refl)
 
@@ -85,7 +85,7 @@ drawing highest = 0x82 ∷ 0x10 ∷ 0x90 ∷ 0xB5 ∷ 0x04 ∷ highest ∷ []
 
 -- what such a Request comes to at port 3: whether it fits, and Accept or Reject on the wire
 pub record ComesTo (s : List ℕ) (fitting : Bool) : Type 0 where
-  pub read : read_of s ≡ Reading.Message 1 first
+  pub read : read_of s ≡ message_with 1 first
   pub fit : fits 1 (first_object (part_of s)) (at now' 2).port.last ≡ fitting
   pub answer : on_wire (step now' 3 (packet s)).actions.transmit ≡ answer_of fitting
 

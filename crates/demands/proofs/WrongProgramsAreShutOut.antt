@@ -9,8 +9,6 @@ use lib.Dec.{leb, ltb, eqb}
 use lib.ListN.{length}
 use borrow.Author.Tests.{leb-true, le-leb, eq-eqb}
 use Rattle.ground.specs.declared.Refusal.TheVariants.{OutOfRange}
-use Rattle.ground.specs.declared.Verdict.{Verdict}
-use Rattle.ground.specs.declared.Verdict.TheVariants.{Fine, Refused}
 use Rattle.ground.specs.Refusals.{refuse_if, any_of}
 use Rattle.message.specs.declared.Fields.{Fields}
 use Rattle.message.specs.Header.{fields_of, objects_of, header_of}
@@ -18,9 +16,7 @@ use Rattle.message.specs.Bytes.{word_of, is_chunked, bytes_of}
 use Rattle.message.proofs.Bytes.{are_bytes}
 use Rattle.meaning.specs.declared.Meaning.{Meaning}
 use Rattle.meaning.specs.Meaning.{meaning_of}
-use Rattle.reading.specs.declared.Reading.{Reading}
 use Rattle.reading.specs.Reading.{read_of, reading_tried, part_of}
-use Rattle.writing.specs.declared.Writing.{Writing}
 use Rattle.writing.specs.Writing.{writing_tried}
 use Rattle.offers.specs.Offers.{object_at, good_object, good_from, good_offer}
 use Rattle.offers.specs.Requests.{fits, asked, fit_of, is_honoured}
@@ -66,6 +62,9 @@ use Rattle.demands.specs.Demand3.{Demand3}
 use Rattle.demands.specs.WrongPrograms as Wrong
 use Rattle.demands.proofs.WorkedRequests.{first, wanting, drawing}
 use Rattle.demands.proofs.ThirtyTwoPorts as Large
+use Rattle.ground.specs.Refusals.{Verdict}
+use Rattle.reading.specs.Reading.{message_with}
+use Rattle.std.specs.Prelude.{Ok, Err}
 
 -- ---- the night desk, and what came to it
 abbrev u : SetUp
@@ -119,8 +118,8 @@ abbrev led : Program → List Happens → Happening → Port
 led P es h = (at (turned (rack_now P u es) 0 (own P es h)).rack 0).port
 
 abbrev is_fine : Verdict → Bool
-is_fine Fine = true
-is_fine (Refused no') = false
+is_fine (Ok _) = true
+is_fine (Err no') = false
 
 abbrev is_nothing : Change → Bool
 is_nothing Change.Nothing = true
@@ -137,15 +136,15 @@ reserved = record { extended = false; message_id = 0; power_role = 1; revision =
 
 -- ---- the cases, computed
 record Cases : Type 0 where
-  set_up_lem : (accepted_set_up u).verdict ≡ Fine
+  set_up_lem : (accepted_set_up u).verdict ≡ Ok tt
   good : good_set_up u ≡ true
-  read : (read_of Desk.for30000 ≡ Reading.Message 1 first) × (read_of Desk.for54000 ≡ Reading.Message 1 first) × (meaning_in 1 first ≡ Meaning.Request)
+  read : (read_of Desk.for30000 ≡ message_with 1 first) × (read_of Desk.for54000 ≡ message_with 1 first) × (meaning_in 1 first ≡ Meaning.Request)
   refusing : Acceptable Wrong.rejects_everything u one 0 Desk.for30000 1 first
   little : (asked (first_object (part_of Desk.for30000)) (at1 Wrong.rejects_everything one).last).worth ≤ 30000
   refuses : is_accept (on_wire (answer Wrong.rejects_everything one (packet Desk.for30000)).actions.transmit) ≡ false
   comparing : Acceptable Wrong.compares_with_the_wrong_limit u one 0 Desk.for54000 1 first
   compares : is_accept (on_wire (answer Wrong.compares_with_the_wrong_limit one (packet Desk.for54000)).actions.transmit) ≡ false
-  mismatches : (read_of (wanting 0x24) ≡ Reading.Message 1 first) × (read_of (wanting 0x20) ≡ Reading.Message 1 first) × (read_of (drawing 0x24) ≡ Reading.Message 1 first)
+  mismatches : (read_of (wanting 0x24) ≡ message_with 1 first) × (read_of (wanting 0x20) ≡ message_with 1 first) × (read_of (drawing 0x24) ≡ message_with 1 first)
   mismatched : Acceptable Wrong.hears_no_mismatch u one 0 (wanting 0x24) 1 first
   hears_none : is_accept (on_wire (answer Wrong.hears_no_mismatch one (packet (wanting 0x24))).actions.transmit) ≡ false
   hears_all :
@@ -180,7 +179,7 @@ record Cases : Type 0 where
       × (pending_in (after Wrong.keeps_the_retry_through_a_hard_reset promised (event Event.HardReset)) ≡ true)
       × (pending_in (led Wrong.keeps_the_retry_through_a_hard_reset promised (event Event.HardReset)) ≡ false)
   reads_nothing : eqb (length (bytes_of alike [])) 0 ≡ false
-  refused_write : (Wrong.changes_the_buffer_of_a_refused_write).write reserved [] (7 ∷ []) 0 ≡ Writing.Refused OutOfRange
+  refused_write : (Wrong.changes_the_buffer_of_a_refused_write).write reserved [] (7 ∷ []) 0 ≡ Err OutOfRange
   invents :
       (ltb 0 (answer Wrong.invents_a_retry reset (event Event.Acknowledgement)).actions.transmit.length ≡ true)
       × (pending_in (after Wrong.invents_a_retry reset (event Event.Acknowledgement)) ≡ false)

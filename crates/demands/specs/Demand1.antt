@@ -3,11 +3,8 @@
 use Rattle.std.specs.Prelude.{ℕ, ◌≡◌, true, false, List, [], length}
 use Rattle.ground.specs.declared.Refusal.{Refusal}
 use Rattle.ground.specs.declared.Refusal.TheVariants.{BadSetUp}
-use Rattle.ground.specs.declared.Verdict.TheVariants.{Fine, Refused}
 use Rattle.message.specs.declared.Fields.{Fields}
-use Rattle.reading.specs.declared.Reading.{Reading}
 use Rattle.reading.specs.Reading.{reading_tried}
-use Rattle.writing.specs.declared.Writing.{Writing}
 use Rattle.writing.specs.Writing.{writing_tried}
 use Rattle.power.specs.declared.Change.{Change}
 use Rattle.port.specs.Memory.{no_actions}
@@ -17,19 +14,20 @@ use Rattle.setup.specs.declared.SetUp.{SetUp}
 use Rattle.setup.specs.SetUps.{good_set_up, rack_of, no_rack}
 use Rattle.rackclaims.specs.Verdicts.{verdict_in}
 use Rattle.demands.specs.Programs.{Program}
+use Rattle.std.specs.Prelude.{Ok, Err}
 
 pub record Demand1 (P : Program) : Type 0 where
   -- every event gets an answer, whatever came before, so in any rack: the table's number where the table gives one ("9, then 1 to 4 or 7, then 8"), else it is fine
   pub every_event_is_answered : (r : Rack) (number : ℕ) (h : Happening) → (P.step r number h).verdict ≡ verdict_in r number h
   -- and so does every packet that is read, and every message that is to be written: reading tries 1, 2, 3, 4, 3, writing 6, 4, 5
-  pub every_packet_is_answered : (s : List ℕ) (no' : Refusal) → reading_tried s ≡ Refused no' → (P.read s ≡ Reading.Refused no') × (P.part s ≡ [])
-  pub every_message_is_answered : (f : Fields) (o buf : List ℕ) (place : ℕ) (no' : Refusal) → writing_tried f o (length buf) place ≡ Refused no' → P.write f o buf place ≡ Writing.Refused no'
+  pub every_packet_is_answered : (s : List ℕ) (no' : Refusal) → reading_tried s ≡ Err no' → (P.read s ≡ Err no') × (P.part s ≡ [])
+  pub every_message_is_answered : (f : Fields) (o buf : List ℕ) (place : ℕ) (no' : Refusal) → writing_tried f o (length buf) place ≡ Err no' → P.write f o buf place ≡ Err no'
   -- refused, no port and no held power is different afterwards, and nothing is done
-  pub no_port_is_different : (r : Rack) (number : ℕ) (h : Happening) (no' : Refusal) → (P.step r number h).verdict ≡ Refused no' → (P.step r number h).rack ≡ r
-  pub nothing_is_done : (r : Rack) (number : ℕ) (h : Happening) (no' : Refusal) → (P.step r number h).verdict ≡ Refused no' →
+  pub no_port_is_different : (r : Rack) (number : ℕ) (h : Happening) (no' : Refusal) → (P.step r number h).verdict ≡ Err no' → (P.step r number h).rack ≡ r
+  pub nothing_is_done : (r : Rack) (number : ℕ) (h : Happening) (no' : Refusal) → (P.step r number h).verdict ≡ Err no' →
       ((P.step r number h).actions ≡ no_actions) × ((P.step r number h).held ≡ Change.Nothing)
   -- nor is any lent byte; events and reading are lent nothing that they could change
-  pub no_lent_byte_is_different : (f : Fields) (o buf : List ℕ) (place : ℕ) (no' : Refusal) → P.write f o buf place ≡ Writing.Refused no' → P.buffer f o buf place ≡ buf
+  pub no_lent_byte_is_different : (f : Fields) (o buf : List ℕ) (place : ℕ) (no' : Refusal) → P.write f o buf place ≡ Err no' → P.buffer f o buf place ≡ buf
   -- a set-up: good, it is set up; bad, it is 10, and nothing is set up
-  pub good_is_set_up : (u : SetUp) → good_set_up u ≡ true → ((P.accepted_set_up u).verdict ≡ Fine) × ((P.accepted_set_up u).rack ≡ rack_of u)
-  pub bad_is_ten : (u : SetUp) → good_set_up u ≡ false → ((P.accepted_set_up u).verdict ≡ Refused BadSetUp) × ((P.accepted_set_up u).rack ≡ no_rack)
+  pub good_is_set_up : (u : SetUp) → good_set_up u ≡ true → ((P.accepted_set_up u).verdict ≡ Ok tt) × ((P.accepted_set_up u).rack ≡ rack_of u)
+  pub bad_is_ten : (u : SetUp) → good_set_up u ≡ false → ((P.accepted_set_up u).verdict ≡ Err BadSetUp) × ((P.accepted_set_up u).rack ≡ no_rack)

@@ -8,8 +8,6 @@ use Rattle.ground.specs.Buffers.{laid}
 use Rattle.message.specs.declared.Fields.{Fields}
 use Rattle.message.specs.Bytes.{AreBytes, Sound, bytes_of}
 use Rattle.meaning.specs.declared.Meaning.{Meaning}
-use Rattle.reading.specs.declared.Reading.{Reading}
-use Rattle.writing.specs.declared.Writing.{Writing}
 use Rattle.writing.specs.Writing.{Writable}
 use Rattle.offers.specs.Requests.{fits, asked}
 use Rattle.outgoing.specs.Packets.{on_wire}
@@ -33,24 +31,26 @@ use Rattle.setup.specs.SetUps.{setting}
 use Rattle.rackclaims.specs.Wire.{is_accept}
 use Rattle.rackclaims.specs.History.{held_by}
 use Rattle.demands.specs.Programs.{Program, rack_now, history, AtAnyPort}
+use Rattle.reading.specs.Reading.{message_with}
+use Rattle.std.specs.Prelude.{Ok, Err}
 
 -- ---- "Messages are read and written as USB PD R3.2 lays them out, each undoing the other (the reserved revision is read, never written)"
 pub record ReadAndWritten (P : Program) : Type 0 where
   -- the bytes of a sound message, of whatever revision, are read as that message; and nothing else is read
-  pub message_is_read : (f : Fields) (o : List ℕ) → Sound f o → (P.read (bytes_of f o) ≡ Reading.Message (length o / 4) f) × (P.part (bytes_of f o) ≡ o)
-  pub nothing_else_is_read : (s : List ℕ) → AreBytes s → (n : ℕ) (f : Fields) → P.read s ≡ Reading.Message n f → bytes_of f (P.part s) ≡ s
+  pub message_is_read : (f : Fields) (o : List ℕ) → Sound f o → (P.read (bytes_of f o) ≡ message_with (length o / 4) f) × (P.part (bytes_of f o) ≡ o)
+  pub nothing_else_is_read : (s : List ℕ) → AreBytes s → (n : ℕ) (f : Fields) → P.read s ≡ message_with n f → bytes_of f (P.part s) ≡ s
   -- a sound message is written wherever there is room, unless its revision is 11b: its bytes from the place on, and no other byte; and nothing else is written
   pub message_is_written : (f : Fields) (o buf : List ℕ) (place : ℕ) → Writable f o (length buf) place →
-      (P.write f o buf place ≡ Writing.Written (length (bytes_of f o))) × (P.buffer f o buf place ≡ laid (bytes_of f o) place buf)
-  pub nothing_else_is_written : (f : Fields) (o buf : List ℕ) (place k : ℕ) → P.write f o buf place ≡ Writing.Written k → Writable f o (length buf) place
-  pub reserved_is_never_written : (f : Fields) (o buf : List ℕ) (place : ℕ) → 3 ≤ f.revision → P.write f o buf place ≡ Writing.Refused OutOfRange
+      (P.write f o buf place ≡ Ok (length (bytes_of f o))) × (P.buffer f o buf place ≡ laid (bytes_of f o) place buf)
+  pub nothing_else_is_written : (f : Fields) (o buf : List ℕ) (place k : ℕ) → P.write f o buf place ≡ Ok k → Writable f o (length buf) place
+  pub reserved_is_never_written : (f : Fields) (o buf : List ℕ) (place : ℕ) → 3 ≤ f.revision → P.write f o buf place ≡ Err OutOfRange
   -- what was written, k bytes from the place on, reads back the same
-  pub written_reads_back : (f : Fields) (o buf : List ℕ) (place k : ℕ) → P.write f o buf place ≡ Writing.Written k →
-      (P.read (take k (drop place (P.buffer f o buf place))) ≡ Reading.Message (length o / 4) f) × (P.part (take k (drop place (P.buffer f o buf place))) ≡ o)
+  pub written_reads_back : (f : Fields) (o buf : List ℕ) (place k : ℕ) → P.write f o buf place ≡ Ok k →
+      (P.read (take k (drop place (P.buffer f o buf place))) ≡ message_with (length o / 4) f) × (P.part (take k (drop place (P.buffer f o buf place))) ≡ o)
   -- what was read with a revision other than 11b writes back to the same bytes, wherever there is room
-  pub read_writes_back : (s : List ℕ) → AreBytes s → (n : ℕ) (f : Fields) → P.read s ≡ Reading.Message n f → f.revision < 3 →
+  pub read_writes_back : (s : List ℕ) → AreBytes s → (n : ℕ) (f : Fields) → P.read s ≡ message_with n f → f.revision < 3 →
       (buf : List ℕ) (place : ℕ) → place ≤ length buf → length s ≤ length buf - place →
-      (P.write f (P.part s) buf place ≡ Writing.Written (length s)) × (P.buffer f (P.part s) buf place ≡ laid s place buf)
+      (P.write f (P.part s) buf place ≡ Ok (length s)) × (P.buffer f (P.part s) buf place ≡ laid s place buf)
 
 -- ---- at a port, after a set-up and some events
 module _ (P : Program) (u : SetUp) (es : List Happens) (i : ℕ) where
@@ -100,14 +100,14 @@ module _ (P : Program) (u : SetUp) (es : List Happens) (i : ℕ) where
 
   -- "An Accept answers a new Request exactly when ..": told from the bytes on the wire
   pub record AcceptsExactly : Type 0 where
-    pub accepted_when : (s : List ℕ) (n : ℕ) (f : Fields) → P.read s ≡ Reading.Message n f → meaning_in n f ≡ Meaning.Request → Acceptable s n f → answered_with_accept s
-    pub accepted_only_when : (s : List ℕ) (n : ℕ) (f : Fields) → P.read s ≡ Reading.Message n f → meaning_in n f ≡ Meaning.Request → answered_with_accept s → Acceptable s n f
+    pub accepted_when : (s : List ℕ) (n : ℕ) (f : Fields) → P.read s ≡ message_with n f → meaning_in n f ≡ Meaning.Request → Acceptable s n f → answered_with_accept s
+    pub accepted_only_when : (s : List ℕ) (n : ℕ) (f : Fields) → P.read s ≡ message_with n f → meaning_in n f ≡ Meaning.Request → answered_with_accept s → Acceptable s n f
 
   -- "While a port listens, a readable packet that repeats the last stored MessageID, Soft_Reset and GoodCRC aside, gets its GoodCRC again and changes nothing."
   pub record RepeatsChangeNothing : Type 0 where
-    pub changes_nothing : (s : List ℕ) (n : ℕ) (f : Fields) → listens (state_of port) ≡ true → P.read s ≡ Reading.Message n f → is_repeat port.channel f.message_id ≡ true →
+    pub changes_nothing : (s : List ℕ) (n : ℕ) (f : Fields) → listens (state_of port) ≡ true → P.read s ≡ message_with n f → is_repeat port.channel f.message_id ≡ true →
         aside (meaning_in n f) ≡ false → (P.step r (suc i) (packet s)).rack ≡ r
-    pub gets_its_good_crc : (s : List ℕ) (n : ℕ) (f : Fields) → listens (state_of port) ≡ true → P.read s ≡ Reading.Message n f → is_repeat port.channel f.message_id ≡ true →
+    pub gets_its_good_crc : (s : List ℕ) (n : ℕ) (f : Fields) → listens (state_of port) ≡ true → P.read s ≡ message_with n f → is_repeat port.channel f.message_id ≡ true →
         aside (meaning_in n f) ≡ false → (P.step r (suc i) (packet s)).actions ≡ (only_good_crc f port).actions
 
   -- "A message once dropped isn't retried."

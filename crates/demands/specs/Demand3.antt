@@ -3,10 +3,8 @@
 -- port's share is accepted, whatever the other ports did. Held power is reckoned from what was accepted, put in force and given up (the history), not from sums
 -- the program keeps."
 use Rattle.std.specs.Prelude.{ℕ, suc, max, ◌<◌, ◌≤◌, ◌≡◌, true, false, List}
-use Rattle.ground.specs.declared.Verdict.TheVariants.{Fine}
 use Rattle.message.specs.declared.Fields.{Fields}
 use Rattle.meaning.specs.declared.Meaning.{Meaning}
-use Rattle.reading.specs.declared.Reading.{Reading}
 use Rattle.offers.specs.Requests.{fits, asked}
 use Rattle.outgoing.specs.Packets.{on_wire}
 use Rattle.channel.specs.Channel.{is_repeat}
@@ -24,6 +22,8 @@ use Rattle.rackclaims.specs.Wire.{is_accept}
 use Rattle.rackclaims.specs.History.{held_by}
 use Rattle.rackclaims.specs.Told.{told_of}
 use Rattle.demands.specs.Programs.{Program, rack_now, history, AtAnyPort}
+use Rattle.reading.specs.Reading.{message_with}
+use Rattle.std.specs.Prelude.{Ok}
 
 module _ (P : Program) (u : SetUp) (es : List Happens) where
   -- held power, by the history of the port at a place
@@ -47,7 +47,7 @@ module _ (P : Program) (u : SetUp) (es : List Happens) where
 
     -- a new Request that comes awaited or in Ready, fits the last offer and asks no more than the port's share is accepted, whatever the other ports did
     pub record ShareIsGranted : Type 0 where
-      pub granted : (s : List ℕ) (n : ℕ) (f : Fields) → P.read s ≡ Reading.Message n f → meaning_in n f ≡ Meaning.Request →
+      pub granted : (s : List ℕ) (n : ℕ) (f : Fields) → P.read s ≡ message_with n f → meaning_in n f ≡ Meaning.Request →
           is_repeat port.channel f.message_id ≡ false →
           awaits_request (state_of port) ≡ true →
           fits n (first_object (P.part s)) port.last ≡ true →
@@ -61,6 +61,6 @@ module _ (P : Program) (u : SetUp) (es : List Happens) where
       pub program_keeps_it : port.power.held ≡ held i
 
 pub record Demand3 (P : Program) : Type 0 where
-  pub supply : (u : SetUp) → (P.accepted_set_up u).verdict ≡ Fine → (es : List Happens) → SupplyHolds P u es
+  pub supply : (u : SetUp) → (P.accepted_set_up u).verdict ≡ Ok tt → (es : List Happens) → SupplyHolds P u es
   pub share : AtAnyPort P (ShareIsGranted P)
   pub history : AtAnyPort P (HistoryIsTrue P)

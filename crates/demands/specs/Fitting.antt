@@ -2,10 +2,8 @@
 use Rattle.std.specs.Prelude.{ℕ, ◌≡◌, Bool, true, false, cond, ◌&&◌, List, [], ◌∷◌}
 use Rattle.ground.specs.declared.Refusal.TheVariants.{NotInRack}
 use Rattle.meaning.specs.declared.Meaning.{Meaning}
-use Rattle.reading.specs.declared.Reading.{Reading}
 use Rattle.reading.specs.Reading.{read_of, part_of}
 use Rattle.offers.specs.declared.Offer.{Offer}
-use Rattle.offers.specs.declared.Fit.{Fit}
 use Rattle.offers.specs.Objects.{is_mismatch}
 use Rattle.offers.specs.Requests.{operating_fits, maximum_fits, asked, judged, fit_of}
 use Rattle.port.specs.declared.Port.{Port}
@@ -17,6 +15,10 @@ use Rattle.rack.specs.declared.Rack.{Rack}
 use Rattle.rack.specs.Ports.{at, in_rack, place_of, others}
 use Rattle.rack.specs.Steps.{Happening, event, packet, new_offer, own_answer, turned, refused_by}
 use Rattle.rack.specs.Runs.{Happens, Stepping}
+use Rattle.std.specs.Prelude.{Ok, Err, Option, Result}
+use Rattle.reading.specs.declared.Message.{Message}
+use Rattle.ground.specs.declared.Refusal.{Refusal}
+use Rattle.offers.specs.declared.Asked.{Asked}
 
 -- whether a Request of so many objects, with this first one, fits an offer
 abbrev pub Rule : Type 0
@@ -36,12 +38,12 @@ is_request Meaning.Quiet = false
 is_request Meaning.Request = true
 
 -- ---- ours, but that a Request is judged by this rule
-abbrev pub judged_by : Rule → Bool → ℕ → ℕ → Offer → Fit
+abbrev pub judged_by : Rule → Bool → ℕ → ℕ → Offer → Option Asked
 judged_by rule request count r o = cond request (judged (rule count r o) (asked r o)) (fit_of count r o)
 
-abbrev pub read_by : Rule → Reading → Port → List ℕ → Answer
-read_by rule (Reading.Message objects f) p s = message_of p objects f (judged_by rule (is_request (meaning_in objects f)) objects (first_object (part_of s)) p.last)
-read_by rule (Reading.Refused no') p s = Port.refused_by no' p
+abbrev pub read_by : Rule → Result Message Refusal → Port → List ℕ → Answer
+read_by rule (Ok m) p s = message_of p m.objects m.fields (judged_by rule (is_request (meaning_in m.objects m.fields)) m.objects (first_object (part_of s)) p.last)
+read_by rule (Err no') p s = Port.refused_by no' p
 
 abbrev pub own_by : Rule → Rack → ℕ → Happening → Answer
 own_by rule r i (packet s) = read_by rule (read_of s) (at r i).port s
@@ -55,9 +57,9 @@ abbrev pub fitting_by : Rule → Stepping
 fitting_by rule r number h = cond (in_rack r number) (turned r (place_of number) (answer_by rule r (place_of number) h)) (refused_by NotInRack r)
 
 -- ---- events at which a Request sets capability mismatch
-abbrev pub mismatch_in : Reading → List ℕ → Bool
-mismatch_in (Reading.Message objects f) s = is_request (meaning_in objects f) && is_mismatch (first_object (part_of s))
-mismatch_in (Reading.Refused no') s = false
+abbrev pub mismatch_in : Result Message Refusal → List ℕ → Bool
+mismatch_in (Ok m) s = is_request (meaning_in m.objects m.fields) && is_mismatch (first_object (part_of s))
+mismatch_in (Err no') s = false
 
 abbrev pub sets_mismatch : Happening → Bool
 sets_mismatch (packet s) = mismatch_in (read_of s) s

@@ -1,22 +1,22 @@
 -- A program over the paper's memory, whatever it answers to each call. The three demands are said of any such program: ours is one that meets them, and wrong ones
 -- are shown to miss them.
 use Rattle.std.specs.Prelude.{ℕ, ◌<◌, ◌≡◌, List}
-use Rattle.ground.specs.declared.Verdict.TheVariants.{Fine}
 use Rattle.message.specs.declared.Fields.{Fields}
-use Rattle.reading.specs.declared.Reading.{Reading}
-use Rattle.writing.specs.declared.Writing.{Writing}
 use Rattle.rack.specs.declared.Rack.{Rack}
 use Rattle.rack.specs.Runs.{Stepping, Happens, run_by}
 use Rattle.setup.specs.declared.SetUp.{SetUp}
 use Rattle.setup.specs.declared.Started.{Started}
 use Rattle.rackclaims.specs.History.{Entry, history_by}
+use Rattle.std.specs.Prelude.{Ok, Result}
+use Rattle.reading.specs.declared.Message.{Message}
+use Rattle.ground.specs.declared.Refusal.{Refusal}
 
 pub record Program : Type 0 where
   -- reading a packet: the fields or the refusal, and the object bytes that are handed back
-  pub read : List ℕ → Reading
+  pub read : List ℕ → Result Message Refusal
   pub part : List ℕ → List ℕ
   -- writing fields and object bytes into a buffer from a place on: the result, and the buffer afterwards
-  pub write : Fields → List ℕ → List ℕ → ℕ → Writing
+  pub write : Fields → List ℕ → List ℕ → ℕ → Result ℕ Refusal
   pub buffer : Fields → List ℕ → List ℕ → ℕ → List ℕ
   -- a set-up; and an event at the port of a number
   pub accepted_set_up : SetUp → Started
@@ -31,4 +31,4 @@ history P u es = history_by P.step (P.accepted_set_up u).rack es
 
 -- "After an accepted set-up and through any events at any ports", of each port
 abbrev pub AtAnyPort : Program → (SetUp → List Happens → ℕ → Type 0) → Type 0
-AtAnyPort P D = (u : SetUp) → (P.accepted_set_up u).verdict ≡ Fine → (es : List Happens) (i : ℕ) → i < u.count → D u es i
+AtAnyPort P D = (u : SetUp) → (P.accepted_set_up u).verdict ≡ Ok tt → (es : List Happens) (i : ℕ) → i < u.count → D u es i

@@ -8,7 +8,6 @@ use Rattle.meaning.specs.declared.Kind.{Kind}
 use Rattle.meaning.specs.declared.Kind.TheVariants.{Control, Data}
 use Rattle.meaning.specs.declared.Meaning.{Meaning}
 use Rattle.meaning.specs.Meaning.{kind_of, meaning_of}
-use Rattle.reading.specs.declared.Reading.{Reading}
 use Rattle.reading.specs.Reading.{read_of, part_of}
 use Rattle.sending.specs.Sending.{our_fields}
 use Rattle.offers.specs.Requests as Requests
@@ -19,6 +18,9 @@ use Rattle.rack.specs.declared.Rack.{Rack}
 use Rattle.rack.specs.Ports.{at, place_of, others, power_rule}
 use Rattle.rack.specs.Steps as Rack
 use Rattle.rackclaims.specs.NightDesk.{Asking, rack_after, for120000, for54000, for36000, for36180}
+use Rattle.std.specs.Prelude.{Ok, Err, Result}
+use Rattle.reading.specs.declared.Message.{Message}
+use Rattle.ground.specs.declared.Refusal.{Refusal}
 
 -- what the desk says of a header, a packet, or a port that asks
 pub data Example : Type 0 where
@@ -36,9 +38,9 @@ pub data Said : Type 0 where
   message : Kind → Meaning → ℕ → Said
   refusal : ℕ → Said
 
-abbrev pub said : Reading → Said
-said (Reading.Message n f) = message (kind_of f.extended n) (meaning_of (kind_of f.extended n) f.message_type) f.message_id
-said (Reading.Refused r) = refusal (number_of r)
+abbrev pub said : Result Message Refusal → Said
+said (Ok m) = message (kind_of m.fields.extended m.objects) (meaning_of (kind_of m.fields.extended m.objects) m.fields.message_type) m.fields.message_id
+said (Err r) = refusal (number_of r)
 
 -- "the sum over the other ports of max(share, held) plus max(share, held, asked) of this port"
 abbrev pub total_with : Rack → ℕ → ℕ → ℕ

@@ -1,9 +1,7 @@
 -- "What may not be left loose": wrong programs, to be tried against the demands. Each is ours but for one lie, after which it is named.
 use Rattle.std.specs.Prelude.{ℕ, max, ◌+◌, Bool, true, false, cond, ◌&&◌, ◌||◌, [], leb, eqb}
 use Rattle.ground.specs.declared.Refusal.TheVariants.{NotAwaited, NotInRack}
-use Rattle.ground.specs.declared.Verdict.TheVariants.{Fine}
 use Rattle.message.specs.Types as Types
-use Rattle.reading.specs.declared.Reading.{Reading}
 use Rattle.offers.specs.Objects.{position_of, is_mismatch}
 use Rattle.offers.specs.Offers.{has}
 use Rattle.offers.specs.Requests.{operating_fits}
@@ -29,6 +27,8 @@ use Rattle.demands.specs.Programs.{Program}
 use Rattle.demands.specs.Ours.{ours}
 use Rattle.demands.specs.Limits.{stepped_up_to, set_up_up_to}
 use Rattle.demands.specs.Fitting.{both_compared, fitting_by}
+use Rattle.reading.specs.Reading.{message_with}
+use Rattle.std.specs.Prelude.{Ok}
 
 -- ours, stepped in another way
 abbrev stepped_by : Stepping → Program
@@ -118,7 +118,7 @@ accept_once_more =
 abbrev pub invents_a_retry : Program
 invents_a_retry =
     changed_by
-    (λ r number h a. cond (same (state_of (at r (place_of number)).port) State.Hard) (record { verdict = Fine; rack = a.rack; actions = accept_once_more; held = a.held }) a)
+    (λ r number h a. cond (same (state_of (at r (place_of number)).port) State.Hard) (record { verdict = Ok tt; rack = a.rack; actions = accept_once_more; held = a.held }) a)
 
 -- ---- programs that sleep, or answer somebody else
 abbrev pub does_nothing : Program
@@ -157,7 +157,7 @@ takes_one_unit_more = limited_to 32 6400001
 abbrev pub reads_all_alike : Program
 reads_all_alike =
     record {
-      read = λ s. Reading.Message 0 (record { extended = false; message_id = 0; power_role = 0; revision = 2; data_role = 0; message_type = 1 });
+      read = λ s. message_with 0 (record { extended = false; message_id = 0; power_role = 0; revision = 2; data_role = 0; message_type = 1 });
       part = λ s. [];
       write = ours.write;
       buffer = ours.buffer;

@@ -1,7 +1,5 @@
 -- What a field of a night comes to over a rack, and all fields one after the other: the list of answers. docs/NIGHT.md says which fields there are.
 use Rattle.std.specs.Prelude.{ℕ, zero, suc, ◌+◌, ◌≡◌, true, false, cond, List, [], ◌∷◌, length, drop}
-use Rattle.ground.specs.declared.Verdict.{Verdict}
-use Rattle.ground.specs.declared.Verdict.TheVariants.{Fine, Refused}
 use Rattle.port.specs.Memory.{no_actions}
 use Rattle.rack.specs.declared.Rack.{Rack}
 use Rattle.rack.specs.declared.RackAnswer.{RackAnswer}
@@ -14,18 +12,20 @@ use Rattle.night.specs.Fields.{size_of}
 use Rattle.night.specs.Events.{next_of, behind_of, offer_of}
 use Rattle.night.specs.SetUps.{set_up_in}
 use Rattle.fields.specs.declared.Field.{Field}
+use Rattle.ground.specs.Refusals.{Verdict}
+use Rattle.std.specs.Prelude.{Ok, Err}
 
 -- "Nothing is skipped": what cannot be read changes nothing
 abbrev pub unread : Found → Rack → Field
-unread found r = record { found = found; read = false; verdict = Fine; actions = no_actions; rack = r; size = 0 }
+unread found r = record { found = found; read = false; verdict = Ok tt; actions = no_actions; rack = r; size = 0 }
 
 abbrev pub event_field : Found → RackAnswer → ℕ → Field
 event_field found a size = record { found = found; read = true; verdict = a.verdict; actions = a.actions; rack = a.rack; size = size }
 
 -- "A bad one changes nothing"; "the rack before is put away"
 abbrev pub rack_after : Verdict → Rack → Rack → Rack
-rack_after Fine new old = new
-rack_after (Refused r) new old = old
+rack_after (Ok _) new old = new
+rack_after (Err r) new old = old
 
 abbrev pub started_field : Rack → Started → ℕ → Field
 started_field r s size = record { found = Found.SetUp; read = true; verdict = s.verdict; actions = no_actions; rack = rack_after s.verdict s.rack r; size = size }

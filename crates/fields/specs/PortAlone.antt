@@ -1,7 +1,6 @@
 -- What a field comes to at one port that is looked at by itself: whether the port's own answer is the whole, and that answer. `proofs/PortAlone` shows that it
 -- then is the field's answer in the rack; nobody has to believe the definitions here.
 use Rattle.std.specs.Prelude.{ℕ, Bool, false, not, ◌&&◌, List, eqb}
-use Rattle.ground.specs.declared.Verdict.TheVariants.{Fine}
 use Rattle.port.specs.declared.Answer.{Answer}
 use Rattle.port.specs.Memory.{no_actions}
 use Rattle.port.specs.Calls as Port
@@ -12,10 +11,11 @@ use Rattle.night.specs.declared.Found.{Found}
 use Rattle.night.specs.Fields.{size_of}
 use Rattle.night.specs.Events.{next_of, behind_of, offer_of}
 use Rattle.fields.specs.declared.alone.Alone.{Alone}
+use Rattle.std.specs.Prelude.{Ok}
 
 -- what is no event
 abbrev pub elsewhere : Slot → Alone
-elsewhere t = record { settled = false; verdict = Fine; actions = no_actions; slot = t; size = 0 }
+elsewhere t = record { settled = false; verdict = Ok tt; actions = no_actions; slot = t; size = 0 }
 
 -- an event that came to this port or to another
 abbrev pub answered_alone : Slot → Bool → Answer → ℕ → Alone

@@ -5,22 +5,22 @@ use mathlib.Core.List.{List, [], ◌∷◌}
 use lib.Dec.{T}
 use borrow.Author.Tests.{not-false}
 use Rattle.ground.specs.declared.Refusal.{Refusal}
-use Rattle.ground.specs.declared.Verdict.{Verdict}
-use Rattle.ground.specs.declared.Verdict.TheVariants.{Fine, Refused}
 use Rattle.ground.specs.Refusals.{refuse_if, any_of}
+use Rattle.ground.specs.Refusals.{Verdict}
+use Rattle.std.specs.Prelude.{Ok, Err}
 
-pub passed : (t : Bool) (r : Refusal) (v : Verdict) → refuse_if t r v ≡ Fine → (t ≡ false) × (v ≡ Fine)
+pub passed : (t : Bool) (r : Refusal) (v : Verdict) → refuse_if t r v ≡ Ok tt → (t ≡ false) × (v ≡ Ok tt)
 unfolding refuse_if
 passed true r v e = (cc, cc)
 passed false r v e = (refl, e)
 
-pub pass : (t : Bool) (r : Refusal) (v : Verdict) → t ≡ false → v ≡ Fine → refuse_if t r v ≡ Fine
+pub pass : (t : Bool) (r : Refusal) (v : Verdict) → t ≡ false → v ≡ Ok tt → refuse_if t r v ≡ Ok tt
 unfolding refuse_if
 pass true r v t-false e = cc
 pass false r v t-false e = e
 
 -- a test that holds refuses, whatever comes behind it
-pub refuse : (t : Bool) (r : Refusal) (v : Verdict) → t ≡ true → refuse_if t r v ≡ Refused r
+pub refuse : (t : Bool) (r : Refusal) (v : Verdict) → t ≡ true → refuse_if t r v ≡ Err r
 unfolding refuse_if
 refuse true r v h = refl
 refuse false r v h = cc

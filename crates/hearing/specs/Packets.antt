@@ -3,9 +3,8 @@ use Rattle.std.specs.Prelude.{ℕ, Bool, cond, List, [], ◌∷◌, eqb}
 use Rattle.source.specs.declared.State.{State}
 use Rattle.source.specs.declared.Heard.{Heard}
 use Rattle.source.specs.declared.Heard.TheVariants.{FittingRequest, OtherRequest, OtherReply, Quiet}
-use Rattle.source.specs.declared.Lead.{Lead}
-use Rattle.source.specs.declared.Lead.TheVariants.{Refuse, To}
 use Rattle.source.specs.declared.Way.{Way}
+use Rattle.std.specs.Prelude.{Some, None, Option}
 
 -- kinds of packets told apart
 abbrev pub heard_code : Heard → ℕ
@@ -64,20 +63,20 @@ abbrev pub answering : Heard → Way
 answering = by_rows ((Heard.SoftReset leads-to Way.Answering) ∷ []) Way.Hard
 
 -- "In these three (Accepting, Moving, Telling), any new packet (Soft_Reset too): Hard."
-unfoldable pub on_packet : State → Heard → Lead
-on_packet State.Detached h = Refuse
-on_packet State.Offer h = To (awaiting h)
-on_packet State.Discovery h = To (awaiting h)
-on_packet State.Disabled h = Refuse
-on_packet State.Judge h = To (answered h)
-on_packet State.Accepting h = To Way.Hard
-on_packet State.Moving h = To Way.Hard
-on_packet State.Telling h = To Way.Hard
-on_packet State.Ready h = To (at_rest h)
-on_packet State.Declining h = To (answered h)
-on_packet State.Refusing h = To (answered h)
-on_packet State.Waiting h = To (waited h)
-on_packet State.Soft h = To (resetting h)
-on_packet State.Answering h = To (answering h)
-on_packet State.Hard h = Refuse
-on_packet State.Default h = Refuse
+unfoldable pub on_packet : State → Heard → Option Way
+on_packet State.Detached h = None
+on_packet State.Offer h = Some (awaiting h)
+on_packet State.Discovery h = Some (awaiting h)
+on_packet State.Disabled h = None
+on_packet State.Judge h = Some (answered h)
+on_packet State.Accepting h = Some Way.Hard
+on_packet State.Moving h = Some Way.Hard
+on_packet State.Telling h = Some Way.Hard
+on_packet State.Ready h = Some (at_rest h)
+on_packet State.Declining h = Some (answered h)
+on_packet State.Refusing h = Some (answered h)
+on_packet State.Waiting h = Some (waited h)
+on_packet State.Soft h = Some (resetting h)
+on_packet State.Answering h = Some (answering h)
+on_packet State.Hard h = None
+on_packet State.Default h = None

@@ -6,8 +6,6 @@ use mathlib.Core.Path.{◌≡◌, refl, sym, ap, ◌∙◌}
 use mathlib.Core.Bool.{Bool, true, false, cond}
 use mathlib.Core.List.{List, [], ◌∷◌}
 use lib.ListN.{length, drop}
-use Rattle.ground.specs.declared.Verdict.{Verdict}
-use Rattle.ground.specs.declared.Verdict.TheVariants.{Fine, Refused}
 use Rattle.portclaims.proofs.Truth.{true_not_false}
 use Rattle.rack.specs.declared.Rack.{Rack}
 use Rattle.setup.specs.SetUps.{accepted_set_up}
@@ -23,6 +21,8 @@ use Rattle.playing.specs.declared.Played.{Played}
 use Rattle.playing.specs.Nights.{begun, rack_after, answered, event_done, set_up_done, field_done, is_readable, night_in}
 use Rattle.nightclaims.specs.Pieces.{played}
 use Rattle.nightclaims.specs.Answered.{answer_told, answers_told}
+use Rattle.ground.specs.Refusals.{Verdict}
+use Rattle.std.specs.Prelude.{Ok, Err}
 
 -- ---- one field
 module _ (r : Rack) (l : List ℕ) where
@@ -62,8 +62,8 @@ module _ (r : Rack) (l : List ℕ) where
   size_same = size_by (next_of l)
 
 rack_same : (v : Verdict) (new old : Rack) → Fields.rack_after v new old ≡ rack_after v new old
-rack_same Fine new old = refl
-rack_same (Refused r) new old = refl
+rack_same (Ok _) new old = refl
+rack_same (Err r) new old = refl
 
 module _ (p : Played) (l : List ℕ) where
   done_by_lem : (found : Found) → is_readable found l ≡ true → answer_told p (field_by found p.rack l) ≡ field_done found p l

@@ -6,7 +6,6 @@ use mathlib.Core.Bool.{true}
 use mathlib.Core.List.{List, ◌++◌}
 use lib.ListN.{length, drop}
 use lib.Seq.{drop-append_seam}
-use Rattle.ground.specs.declared.Verdict.TheVariants.{Fine}
 use Rattle.setup.specs.SetUps.{accepted_set_up}
 use Rattle.night.specs.declared.Found.{Found}
 use Rattle.night.specs.declared.Laid.{Laid}
@@ -18,6 +17,7 @@ use Rattle.playing.specs.declared.Played.{Played}
 use Rattle.playing.specs.Nights.{set_up_done, field_done, is_readable}
 use Rattle.nightclaims.specs.Pieces.{played}
 use Rattle.nightclaims.proofs.PiecesChangeNothing.{first_field}
+use Rattle.std.specs.Prelude.{Ok}
 
 module _ (ports : List PortGroup) (supply : ℕ) where
   -- the set-up is judged, and its bytes are read
@@ -25,7 +25,7 @@ module _ (ports : List PortGroup) (supply : ℕ) where
   set_up_played p = set_up_done p (accepted_set_up (set_up_for ports supply)) (length (rack_bytes ports supply))
 
   -- THE CLAIM: where it is accepted, there is its rack, whatever rack there was
-  pub its_rack : (p : Played) → (accepted_set_up (set_up_for ports supply)).verdict ≡ Fine → (set_up_played p).rack ≡ (accepted_set_up (set_up_for ports supply)).rack
+  pub its_rack : (p : Played) → (accepted_set_up (set_up_for ports supply)).verdict ≡ Ok tt → (set_up_played p).rack ≡ (accepted_set_up (set_up_for ports supply)).rack
   unfolding set_up_done
   its_rack p accepted = rw accepted
 

@@ -7,7 +7,6 @@ use mathlib.Core.Path.{◌≡◌, refl, sym, ap, subst, ◌∙◌}
 use mathlib.Core.Bool.{Bool, true, false, cond}
 use mathlib.Core.List.{List, ◌++◌}
 use lib.ListN.{length, drop}
-use Rattle.ground.specs.declared.Verdict.TheVariants.{Fine}
 use Rattle.rack.specs.declared.Rack.{Rack}
 use Rattle.rack.specs.Ports.{at, ports_in, in_rack, place_of, total, loads}
 use Rattle.rack.specs.Steps.{Happening, if_in_rack, step}
@@ -31,10 +30,11 @@ use Rattle.nightclaims.specs.Happened.{happened_in, no_set_up_in}
 use Rattle.nightclaims.specs.InSupply.{held_in, InSupply}
 use Rattle.nightclaims.proofs.EventByEvent.{event_by_event}
 use Rattle.nightclaims.proofs.SetUpComesFirst.{set_up_played, set_up_comes_first, its_rack}
+use Rattle.std.specs.Prelude.{Ok}
 
 -- ---- an accepted set-up u, and then events: whatever bytes, as long as no set-up is read
 module _ (u : SetUp)
-    (accepted : (accepted_set_up u).verdict ≡ Fine)
+    (accepted : (accepted_set_up u).verdict ≡ Ok tt)
     (p : Played)
     (is_set_up_lem : p.rack ≡ (accepted_set_up u).rack)
     (l : List ℕ)
@@ -69,7 +69,7 @@ module _ (u : SetUp)
 -- ---- the same of a file: the bytes of a set-up as docs/NIGHT.md lays them out, and then events; whatever was played before
 module _ (ports : List PortGroup) (supply : ℕ)
     (fit : Fit ports supply)
-    (accepted : (accepted_set_up (set_up_for ports supply)).verdict ≡ Fine)
+    (accepted : (accepted_set_up (set_up_for ports supply)).verdict ≡ Ok tt)
     (p : Played)
     (l : List ℕ)
     (events : no_set_up_in (length l) l ≡ true) where

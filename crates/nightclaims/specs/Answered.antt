@@ -1,6 +1,5 @@
 -- The answers of a night, one by one: what each adds to what was played, and what stepping the rack event by event answers.
 use Rattle.std.specs.Prelude.{ℕ, ◌+◌, cond, List, [], ◌∷◌}
-use Rattle.ground.specs.declared.Verdict.{Verdict}
 use Rattle.port.specs.declared.Actions.{Actions}
 use Rattle.rack.specs.declared.Rack.{Rack}
 use Rattle.rack.specs.declared.RackAnswer.{RackAnswer}
@@ -11,6 +10,7 @@ use Rattle.tally.specs.declared.Tally.{Tally}
 use Rattle.tally.specs.Counts.{told, set_up_told}
 use Rattle.playing.specs.declared.Played.{Played}
 use Rattle.playing.specs.Nights.{state_at, held_at, is_set_up, number_in}
+use Rattle.ground.specs.Refusals.{Verdict}
 
 -- an answer, at which port, of a rack before and after it
 abbrev pub told_at : Tally → ℕ → Verdict → Actions → Rack → Rack → Tally

@@ -4,9 +4,9 @@ use Prim.Native.Nat.{ℕ}
 use mathlib.Core.Path.{◌≡◌, refl, ap}
 use mathlib.Core.Bool.{Bool, true, false, ◌&&◌, ◌||◌}
 use Rattle.offers.specs.declared.Offer.{Offer}
-use Rattle.offers.specs.declared.Fit.TheVariants.{Fits}
 use Rattle.offers.specs.Objects.{position_of, is_mismatch, operating_of, maximum_of}
 use Rattle.offers.specs.Requests.{operating_fits, maximum_fits, fits, asked, fit_of}
+use Rattle.std.specs.Prelude.{Some}
 
 module _ (count r : ℕ) (o : Offer) where
   -- THE CLAIM: with the bit clear both currents are compared, as before
@@ -43,7 +43,7 @@ module _ (r q : ℕ) (o : Offer) (position : position_of r ≡ position_of q) (o
 
   pub fit_the_same : (count : ℕ) → fits count r o ≡ true → fits count q o ≡ true → fit_of count r o ≡ fit_of count q o
   unfolding fit_of
-  fit_the_same count fitting fitting-too = rw (fitting, fitting-too) (ap Fits asks_the_same)
+  fit_the_same count fitting fitting-too = rw (fitting, fitting-too) (ap Some asks_the_same)
 
   -- THE CLAIM: and no other bit tells, so neither does GiveBack
   pub other_bits_are_ignored : (count : ℕ) → is_mismatch r ≡ is_mismatch q → maximum_of r ≡ maximum_of q → fit_of count r o ≡ fit_of count q o

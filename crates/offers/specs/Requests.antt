@@ -4,10 +4,9 @@
 use Rattle.std.specs.Prelude.{ℕ, ◌*◌, Bool, true, false, ◌&&◌, ◌||◌, leb, eqb}
 use Rattle.offers.specs.declared.Offer.{Offer}
 use Rattle.offers.specs.declared.Asked.{Asked}
-use Rattle.offers.specs.declared.Fit.{Fit}
-use Rattle.offers.specs.declared.Fit.TheVariants.{Unfit, Fits}
 use Rattle.offers.specs.Objects.{voltage_of, current_of, position_of, is_mismatch, operating_of, maximum_of}
 use Rattle.offers.specs.Offers.{has, object_at}
+use Rattle.std.specs.Prelude.{Some, None, Option}
 
 -- the object that a Request names
 abbrev pub named : ℕ → Offer → ℕ
@@ -27,11 +26,11 @@ fits count r o = operating_fits count r o && (is_mismatch r || maximum_fits r o)
 unfoldable pub asked : ℕ → Offer → Asked
 asked r o = record { position = position_of r; voltage = voltage_of (named r o); current = operating_of r; worth = voltage_of (named r o) * operating_of r }
 
-abbrev pub judged : Bool → Asked → Fit
-judged true a = Fits a
-judged false a = Unfit
+abbrev pub judged : Bool → Asked → Option Asked
+judged true a = Some a
+judged false a = None
 
-unfoldable pub fit_of : ℕ → ℕ → Offer → Fit
+unfoldable pub fit_of : ℕ → ℕ → Offer → Option Asked
 fit_of count r o = judged (fits count r o) (asked r o)
 
 -- "last offer has at the contract's position the same voltage and at least its current"

@@ -8,8 +8,6 @@ use Rattle.source.specs.declared.State.{State}
 use Rattle.source.specs.declared.Stimulus.{Stimulus}
 use Rattle.source.specs.declared.Heard.{Heard}
 use Rattle.source.specs.declared.Facts.{Facts}
-use Rattle.source.specs.declared.Lead.{Lead}
-use Rattle.source.specs.declared.Lead.TheVariants.{Refuse, To}
 use Rattle.source.specs.declared.Way.{Way}
 use Rattle.source.specs.States.{same}
 use Rattle.stimuli.specs.Leads.{leads}
@@ -26,19 +24,20 @@ use Rattle.slot.specs.Answers.{has_asked}
 use Rattle.plan.specs.declared.Prior.{Prior}
 use Rattle.plan.specs.declared.Plan.{Plan}
 use Rattle.plan.specs.Plans.{is_judge, after, resends, performed}
+use Rattle.std.specs.Prelude.{Some, None, Option}
 
 -- ---- the tables
-abbrev pub quiet_test : Lead → Bool
-quiet_test Refuse = true
-quiet_test (To way) = not (is_judge way)
+abbrev pub quiet_test : Option Way → Bool
+quiet_test None = true
+quiet_test (Some way) = not (is_judge way)
 
 pub no_stimulus_asks : (s : State) (e : Stimulus) (f : Facts) → T (quiet_test (leads s e f))
 unfolding leads
 no_stimulus_asks = everywhere (λ s e f. quiet_test (leads s e f)) tt
 
-abbrev pub ask_test : State → Lead → Bool
-ask_test s Refuse = true
-ask_test s (To way) = implies (is_judge way) (not (same s State.Judge))
+abbrev pub ask_test : State → Option Way → Bool
+ask_test s None = true
+ask_test s (Some way) = implies (is_judge way) (not (same s State.Judge))
 
 pub asks_elsewhere : (s : State) (h : Heard) → T (ask_test s (on_packet s h))
 unfolding on_packet

@@ -6,14 +6,11 @@ use mathlib.Core.List.{List}
 use lib.Dec.{T}
 use Rattle.ground.specs.declared.Refusal.{Refusal}
 use Rattle.ground.specs.declared.Refusal.TheVariants.{BadOffer, NotAwaited}
-use Rattle.ground.specs.declared.Verdict.TheVariants.{Fine}
 use Rattle.message.specs.declared.Fields.{Fields}
 use Rattle.meaning.specs.declared.Meaning.{Meaning}
-use Rattle.reading.specs.declared.Reading.{Reading}
 use Rattle.reading.specs.Reading.{read_of, part_of}
 use Rattle.offers.specs.declared.Asked.{Asked}
 use Rattle.offers.specs.declared.Offer.{Offer}
-use Rattle.offers.specs.declared.Fit.{Fit}
 use Rattle.offers.specs.Offers.{good_offer}
 use Rattle.offers.specs.Requests.{fit_of}
 use Rattle.outgoing.specs.declared.Packet.{Packet}
@@ -26,16 +23,12 @@ use Rattle.power.specs.Power.{nothing_asked}
 use Rattle.source.specs.declared.State.{State}
 use Rattle.source.specs.declared.Stimulus.{Stimulus}
 use Rattle.source.specs.declared.Timer.{Timer}
-use Rattle.source.specs.declared.Timer.TheVariants.{NoTimer}
 use Rattle.source.specs.declared.Heard.{Heard}
-use Rattle.source.specs.declared.Lead.{Lead}
-use Rattle.source.specs.declared.Lead.TheVariants.{Refuse, To}
 use Rattle.source.specs.declared.Way.{Way}
 use Rattle.source.specs.States.{same, stopped, running, listens}
 use Rattle.stimuli.specs.Leads.{leads}
 use Rattle.source.specs.Changes.{change_of}
 use Rattle.hearing.specs.Packets.{on_packet}
-use Rattle.port.specs.declared.GoodCrc.{GoodCrc}
 use Rattle.port.specs.declared.Port.{Port}
 use Rattle.port.specs.declared.Answer.{Answer}
 use Rattle.port.specs.declared.Event.{Event}
@@ -52,6 +45,8 @@ use Rattle.plan.specs.declared.Cue.{Cue}
 use Rattle.plan.specs.declared.Met.{Met}
 use Rattle.plan.specs.Plans.{plain, met_outcome, met_event, met_repeat, met_new, is_good_crc, met_meaning, met_message, met_reading, met_packet, met_offer, refuses, goes, is_judge, still_runs, plan_led, plan_heard, plan_of, answered_by, settled_plan, after, judging, resends, performed, done_plan, done_of}
 use Rattle.plan.proofs.Asking.{quiet_test, ask_test, no_stimulus_asks, asks_elsewhere, is_judge_lem, never, not_asked}
+use Rattle.std.specs.Prelude.{Some, None, Ok, Err, Option, Result}
+use Rattle.reading.specs.declared.Message.{Message}
 
 -- where the power answer leads
 abbrev replying : Bool → State
@@ -64,8 +59,8 @@ abbrev Silent : Prior → Type 0
 Silent prior = (m : Packet) (a : Answer) → resends prior m a ≡ a
 
 module _ (p : Port) (o : Offer) where
-  performs : (prior : Prior) (crc : GoodCrc) (runs : Timer) (change : Change) (way : Way) (a : Asked) → Silent prior →
-      performed p o (record { verdict = Fine; prior = prior; crc = crc; runs = runs; change = change; way = way; asks = false; asked = a }) ≡ turn (after prior o p) (state_of p) crc runs change way a
+  performs : (prior : Prior) (crc : Option (List ℕ)) (runs : Option Timer) (change : Change) (way : Way) (a : Asked) → Silent prior →
+      performed p o (record { verdict = Ok tt; prior = prior; crc = crc; runs = runs; change = change; way = way; asks = false; asked = a }) ≡ turn (after prior o p) (state_of p) crc runs change way a
   unfolding performed
   performs prior crc runs change way a silent = silent _ _
 
@@ -73,9 +68,9 @@ module _ (p : Port) (o : Offer) where
   unfolding plan_of happens
   led prior e expired silent = by_lead (leads (state_of p) e (facts_of p))
     where
-      by_lead : (l : Lead) → done_plan p o (plan_led l e expired p (plain (Cue.Meets e expired) prior)) ≡ led_to p e (after prior o p) (still_runs expired (running_in p)) l
-      by_lead Refuse = refl
-      by_lead (To way) = performs prior no_crc (still_runs expired (running_in p)) (change_of (state_of p) e) way nothing_asked silent
+      by_lead : (l : Option Way) → done_plan p o (plan_led l e expired p (plain (Cue.Meets e expired) prior)) ≡ led_to p e (after prior o p) (still_runs expired (running_in p)) l
+      by_lead None = refl
+      by_lead (Some way) = performs prior no_crc (still_runs expired (running_in p)) (change_of (state_of p) e) way nothing_asked silent
 
   sent_again : done_plan p o (plan_of p (plain Cue.Done Prior.Again)) ≡ resent p
   unfolding plan_of performed turn enter resent
@@ -107,33 +102,33 @@ module _ (p : Port) (o : Offer) where
 
   -- ---- a packet
   -- what comes to Judge asks what it would be judged by there
-  to_judge : (id : ℕ) (soft : Bool) (crc : GoodCrc) (runs : Timer) (a : Asked) →
-      performed p o (record { verdict = Fine; prior = Prior.Heard id soft; crc = crc; runs = runs; change = Change.Nothing; way = Way.Judge; asks = true; asked = a }) ≡ turn (hearing p id soft) (state_of p) crc runs Change.Nothing Way.Judge a
+  to_judge : (id : ℕ) (soft : Bool) (crc : Option (List ℕ)) (runs : Option Timer) (a : Asked) →
+      performed p o (record { verdict = Ok tt; prior = Prior.Heard id soft; crc = crc; runs = runs; change = Change.Nothing; way = Way.Judge; asks = true; asked = a }) ≡ turn (hearing p id soft) (state_of p) crc runs Change.Nothing Way.Judge a
   unfolding performed turn enter
   to_judge id soft crc runs a = refl
 
-  heard_so : (id : ℕ) (soft : Bool) (crc : GoodCrc) (runs : Timer) (a : Asked) (way : Way) (b : Bool) → is_judge way ≡ b →
-      performed p o (record { verdict = Fine; prior = Prior.Heard id soft; crc = crc; runs = runs; change = Change.Nothing; way = way; asks = b; asked = a }) ≡ turn (hearing p id soft) (state_of p) crc runs Change.Nothing way a
+  heard_so : (id : ℕ) (soft : Bool) (crc : Option (List ℕ)) (runs : Option Timer) (a : Asked) (way : Way) (b : Bool) → is_judge way ≡ b →
+      performed p o (record { verdict = Ok tt; prior = Prior.Heard id soft; crc = crc; runs = runs; change = Change.Nothing; way = way; asks = b; asked = a }) ≡ turn (hearing p id soft) (state_of p) crc runs Change.Nothing way a
   heard_so id soft crc runs a way true e = rw (is_judge_lem way e) (to_judge id soft crc runs a)
   heard_so id soft crc runs a way false e = performs (Prior.Heard id soft) crc runs Change.Nothing way a (λ m x. refl)
 
-  own_new : (f : Fields) (m : Meaning) (fit : Fit) → done_plan p o (plan_of p (met_new f m fit)) ≡ new_packet p f m fit
+  own_new : (f : Fields) (m : Meaning) (fit : Option Asked) → done_plan p o (plan_of p (met_new f m fit)) ≡ new_packet p f m fit
   unfolding plan_of new_packet
   own_new f m fit = by_lead (on_packet (state_of p) (heard_as m f.message_type fit))
     where
-      by_lead : (l : Lead) → done_plan p o (plan_heard l p (met_new f m fit)) ≡ led_by p f m fit l
-      by_lead Refuse = refl
-      by_lead (To way) = heard_so f.message_id (is_soft_reset m) (crc_for f) (running_in p) (asked_by fit) way (is_judge way) refl
+      by_lead : (l : Option Way) → done_plan p o (plan_heard l p (met_new f m fit)) ≡ led_by p f m fit l
+      by_lead None = refl
+      by_lead (Some way) = heard_so f.message_id (is_soft_reset m) (crc_for f) (running_in p) (asked_by fit) way (is_judge way) refl
 
-  idle : (crc : GoodCrc) → done_plan p o (plan_of p (record { cue = Cue.Done; prior = Prior.Nothing; crc = crc; asked = nothing_asked })) ≡ nothing_done crc p
+  idle : (crc : Option (List ℕ)) → done_plan p o (plan_of p (record { cue = Cue.Done; prior = Prior.Nothing; crc = crc; asked = nothing_asked })) ≡ nothing_done crc p
   unfolding plan_of performed turn enter nothing_done
   idle crc = refl
 
-  own_other : (f : Fields) (m : Meaning) (fit : Fit) (b : Bool) → done_plan p o (plan_of p (cond b (met_repeat f) (met_new f m fit))) ≡ cond b (nothing_done (crc_for f) p) (new_packet p f m fit)
+  own_other : (f : Fields) (m : Meaning) (fit : Option Asked) (b : Bool) → done_plan p o (plan_of p (cond b (met_repeat f) (met_new f m fit))) ≡ cond b (nothing_done (crc_for f) p) (new_packet p f m fit)
   own_other f m fit true = idle (crc_for f)
   own_other f m fit false = own_new f m fit
 
-  own_meaning : (m : Meaning) (f : Fields) (fit : Fit) → done_plan p o (plan_of p (met_meaning m p f fit)) ≡ by_meaning m p f fit
+  own_meaning : (m : Meaning) (f : Fields) (fit : Option Asked) → done_plan p o (plan_of p (met_meaning m p f fit)) ≡ by_meaning m p f fit
   unfolding met_meaning by_meaning other_packet good_crc_heard
   own_meaning Meaning.Unsupported f fit = own_other f Meaning.Unsupported fit (is_repeat p.channel f.message_id && true)
   own_meaning Meaning.GoodCrc f fit = by_outcome_lem (on_good_crc p.channel f.message_id) Cue.Done (nothing_done no_crc p) (idle no_crc)
@@ -143,7 +138,7 @@ module _ (p : Port) (o : Offer) where
   own_meaning Meaning.Quiet f fit = own_other f Meaning.Quiet fit (is_repeat p.channel f.message_id && true)
   own_meaning Meaning.Request f fit = own_other f Meaning.Request fit (is_repeat p.channel f.message_id && true)
 
-  own_message : (objects : ℕ) (f : Fields) (fit : Fit) → done_plan p o (plan_of p (met_message p objects f fit)) ≡ message_of p objects f fit
+  own_message : (objects : ℕ) (f : Fields) (fit : Option Asked) → done_plan p o (plan_of p (met_message p objects f fit)) ≡ message_of p objects f fit
   unfolding met_message message_of
   own_message objects f fit = by_listening (listens (state_of p))
     where
@@ -159,9 +154,9 @@ module _ (p : Port) (o : Offer) where
   unfolding met_packet packet_of
   own_packet s = by_reading (read_of s)
     where
-      by_reading : (r : Reading) → done_plan p o (plan_of p (met_reading r p s)) ≡ read_to r p s
-      by_reading (Reading.Message objects f) = own_message objects f (fit_of objects (first_object (part_of s)) p.last)
-      by_reading (Reading.Refused r) = unread r
+      by_reading : (r : Result Message Refusal) → done_plan p o (plan_of p (met_reading r p s)) ≡ read_to r p s
+      by_reading (Ok m) = own_message m.objects m.fields (fit_of m.objects (first_object (part_of s)) p.last)
+      by_reading (Err r) = unread r
 
   pub own_offer : (limit : ℕ) → done_plan p o (plan_of p (met_offer limit o)) ≡ new_offer_of p limit o
   unfolding met_offer new_offer_of
@@ -208,7 +203,7 @@ stopped_alike State.Default pending true = refl
 stopped_alike State.Default pending false = refl
 
 -- the answer to a port in Judge is what the plan does at once
-over_judge : (p : Port) (s : State) (crc : GoodCrc) (a : Asked) (pending yes' : Bool) →
+over_judge : (p : Port) (s : State) (crc : Option (List ℕ)) (a : Asked) (pending yes' : Bool) →
     joined (turn p s crc (running s pending) Change.Nothing Way.Judge a) (event_of (turn p s crc (running s pending) Change.Nothing Way.Judge a).port (answer_of yes'))
     ≡ turn (judging true a p) s crc (running s pending) (answered_by yes' (refuses NotAwaited)).change (answered_by yes' (refuses NotAwaited)).way a
 unfolding turn enter event_of happens leads change_of
@@ -225,7 +220,7 @@ module _ (t : Slot) (o : Offer) (others supply : ℕ) where
   asked_so a e = rw e refl
 
   -- what asks nothing, on a way that does not lead to Judge
-  asks_nothing : (m : Met) (runs : Timer) (change : Change) (way : Way) → is_judge way ≡ false →
+  asks_nothing : (m : Met) (runs : Option Timer) (change : Change) (way : Way) → is_judge way ≡ false →
       done_plan t.port o (settled_plan t others supply (goes m runs change false way)) ≡ settled t others supply (performed t.port o (goes m runs change false way))
   unfolding settled_plan
   asks_nothing m runs change way w = sym (unsettled (performed t.port o (goes m runs change false way)) (not_asked t.port o (goes m runs change false way) refl w))
@@ -235,14 +230,14 @@ module _ (t : Slot) (o : Offer) (others supply : ℕ) where
   refused_so r = sym (unsettled (refused_by r t.port) (never (same (state_of t.port) State.Judge)))
 
   -- what asks: the power answer is in it
-  answered_so : (h : Heard) (id : ℕ) (soft : Bool) (crc : GoodCrc) (a : Asked) (yes' : Bool) →
+  answered_so : (h : Heard) (id : ℕ) (soft : Bool) (crc : Option (List ℕ)) (a : Asked) (yes' : Bool) →
       done_plan t.port o (answered_by yes' (goes (record { cue = Cue.Hears h; prior = Prior.Heard id soft; crc = crc; asked = a }) (running_in t.port) Change.Nothing true Way.Judge))
       ≡ judged yes' (turn (hearing t.port id soft) (state_of t.port) crc (running_in t.port) Change.Nothing Way.Judge a)
   unfolding judged performed
   answered_so h id soft crc a true = sym (over_judge (hearing t.port id soft) (state_of t.port) crc a (pending_in t.port) true)
   answered_so h id soft crc a false = sym (over_judge (hearing t.port id soft) (state_of t.port) crc a (pending_in t.port) false)
 
-  asks_so : (h : Heard) (id : ℕ) (soft : Bool) (crc : GoodCrc) (a : Asked) → same (state_of t.port) State.Judge ≡ false →
+  asks_so : (h : Heard) (id : ℕ) (soft : Bool) (crc : Option (List ℕ)) (a : Asked) → same (state_of t.port) State.Judge ≡ false →
       done_plan t.port o (settled_plan t others supply (goes (record { cue = Cue.Hears h; prior = Prior.Heard id soft; crc = crc; asked = a }) (running_in t.port) Change.Nothing true Way.Judge))
       ≡ settled t others supply (turn (hearing t.port id soft) (state_of t.port) crc (running_in t.port) Change.Nothing Way.Judge a)
   unfolding settled_plan turn enter
@@ -250,12 +245,12 @@ module _ (t : Slot) (o : Offer) (others supply : ℕ) where
       answered_so h id soft crc a (approves t others supply a.worth)
       ∙ sym (asked_so (turn (hearing t.port id soft) (state_of t.port) crc (running_in t.port) Change.Nothing Way.Judge a) (and (not (same (state_of t.port) State.Judge)) true (not_false (same (state_of t.port) State.Judge) elsewhere) refl))
 
-  led_so : (m : Met) (e : Stimulus) (expired : Bool) (l : Lead) → T (quiet_test l) →
+  led_so : (m : Met) (e : Stimulus) (expired : Bool) (l : Option Way) → T (quiet_test l) →
       done_plan t.port o (settled_plan t others supply (plan_led l e expired t.port m)) ≡ settled t others supply (done_plan t.port o (plan_led l e expired t.port m))
-  led_so m e expired Refuse k = refused_so NotAwaited
-  led_so m e expired (To way) k = asks_nothing m (still_runs expired (running_in t.port)) (change_of (state_of t.port) e) way (not_true (is_judge way) (holds (not (is_judge way)) k))
+  led_so m e expired None k = refused_so NotAwaited
+  led_so m e expired (Some way) k = asks_nothing m (still_runs expired (running_in t.port)) (change_of (state_of t.port) e) way (not_true (is_judge way) (holds (not (is_judge way)) k))
 
-  heard_so' : (h : Heard) (id : ℕ) (soft : Bool) (crc : GoodCrc) (a : Asked) (way : Way) (b : Bool) → is_judge way ≡ b → T (ask_test (state_of t.port) (To way)) →
+  heard_so' : (h : Heard) (id : ℕ) (soft : Bool) (crc : Option (List ℕ)) (a : Asked) (way : Way) (b : Bool) → is_judge way ≡ b → T (ask_test (state_of t.port) (Some way)) →
       done_plan t.port o (settled_plan t others supply (goes (record { cue = Cue.Hears h; prior = Prior.Heard id soft; crc = crc; asked = a }) (running_in t.port) Change.Nothing b way))
       ≡ settled t others supply (performed t.port o (goes (record { cue = Cue.Hears h; prior = Prior.Heard id soft; crc = crc; asked = a }) (running_in t.port) Change.Nothing b way))
   heard_so' h id soft crc a way false e k = asks_nothing (record { cue = Cue.Hears h; prior = Prior.Heard id soft; crc = crc; asked = a }) (running_in t.port) Change.Nothing way e
@@ -263,23 +258,23 @@ module _ (t : Slot) (o : Offer) (others supply : ℕ) where
       rw (is_judge_lem way e, to_judge t.port o id soft crc (running_in t.port) a)
       (asks_so h id soft crc a (not_true (same (state_of t.port) State.Judge) (then (is_judge way) (not (same (state_of t.port) State.Judge)) k e)))
 
-  heard_led : (h : Heard) (id : ℕ) (soft : Bool) (crc : GoodCrc) (a : Asked) (l : Lead) → T (ask_test (state_of t.port) l) →
+  heard_led : (h : Heard) (id : ℕ) (soft : Bool) (crc : Option (List ℕ)) (a : Asked) (l : Option Way) → T (ask_test (state_of t.port) l) →
       done_plan t.port o (settled_plan t others supply (plan_heard l t.port (record { cue = Cue.Hears h; prior = Prior.Heard id soft; crc = crc; asked = a })))
       ≡ settled t others supply (done_plan t.port o (plan_heard l t.port (record { cue = Cue.Hears h; prior = Prior.Heard id soft; crc = crc; asked = a })))
-  heard_led h id soft crc a Refuse k = refused_so NotAwaited
-  heard_led h id soft crc a (To way) k = heard_so' h id soft crc a way (is_judge way) refl k
+  heard_led h id soft crc a None k = refused_so NotAwaited
+  heard_led h id soft crc a (Some way) k = heard_so' h id soft crc a way (is_judge way) refl k
 
   -- what can be met: a new packet has been heard by the protocol rules
   data Sound : Met → Type 0 where
     refusing : (r : Refusal) → Sound (plain (Cue.Refused r) Prior.Nothing)
-    nothing_more : (prior : Prior) (crc : GoodCrc) (a : Asked) → Sound (record { cue = Cue.Done; prior = prior; crc = crc; asked = a })
+    nothing_more : (prior : Prior) (crc : Option (List ℕ)) (a : Asked) → Sound (record { cue = Cue.Done; prior = prior; crc = crc; asked = a })
     meeting : (e : Stimulus) (expired : Bool) (prior : Prior) → Sound (plain (Cue.Meets e expired) prior)
-    hearing_so : (h : Heard) (id : ℕ) (soft : Bool) (crc : GoodCrc) (a : Asked) → Sound (record { cue = Cue.Hears h; prior = Prior.Heard id soft; crc = crc; asked = a })
+    hearing_so : (h : Heard) (id : ℕ) (soft : Bool) (crc : Option (List ℕ)) (a : Asked) → Sound (record { cue = Cue.Hears h; prior = Prior.Heard id soft; crc = crc; asked = a })
 
   settles : (m : Met) → Sound m → done_plan t.port o (settled_plan t others supply (plan_of t.port m)) ≡ settled t others supply (done_plan t.port o (plan_of t.port m))
   unfolding plan_of
   settles m (refusing r) = refused_so r
-  settles m (nothing_more prior crc a) = asks_nothing (record { cue = Cue.Done; prior = prior; crc = crc; asked = a }) NoTimer Change.Nothing Way.Stay refl
+  settles m (nothing_more prior crc a) = asks_nothing (record { cue = Cue.Done; prior = prior; crc = crc; asked = a }) None Change.Nothing Way.Stay refl
   settles m (meeting e expired prior) = led_so (plain (Cue.Meets e expired) prior) e expired (leads (state_of t.port) e (facts_of t.port)) (no_stimulus_asks (state_of t.port) e (facts_of t.port))
   settles m (hearing_so h id soft crc a) = heard_led h id soft crc a (on_packet (state_of t.port) h) (asks_elsewhere (state_of t.port) h)
 
@@ -302,24 +297,24 @@ module _ (t : Slot) (o : Offer) (others supply : ℕ) where
   sound_event Event.Yes = meeting Stimulus.Yes false Prior.Nothing
   sound_event Event.No = meeting Stimulus.No false Prior.Nothing
 
-  sound_other : (f : Fields) (m : Meaning) (fit : Fit) (b : Bool) → Sound (cond b (met_repeat f) (met_new f m fit))
+  sound_other : (f : Fields) (m : Meaning) (fit : Option Asked) (b : Bool) → Sound (cond b (met_repeat f) (met_new f m fit))
   sound_other f m fit true = nothing_more Prior.Nothing (crc_for f) nothing_asked
   sound_other f m fit false = hearing_so (heard_as m f.message_type fit) f.message_id (is_soft_reset m) (crc_for f) (asked_by fit)
 
-  sound_meaning : (m : Meaning) (f : Fields) (fit : Fit) (b : Bool) →
+  sound_meaning : (m : Meaning) (f : Fields) (fit : Option Asked) (b : Bool) →
       Sound (cond b (met_outcome (on_good_crc t.port.channel f.message_id) Cue.Done) (cond (is_repeat t.port.channel f.message_id && not (is_soft_reset m)) (met_repeat f) (met_new f m fit)))
   sound_meaning m f fit true = sound_outcome (on_good_crc t.port.channel f.message_id) Cue.Done (nothing_more Prior.Nothing no_crc nothing_asked)
   sound_meaning m f fit false = sound_other f m fit (is_repeat t.port.channel f.message_id && not (is_soft_reset m))
 
-  sound_message : (objects : ℕ) (f : Fields) (fit : Fit) (b : Bool) → Sound (cond b (met_meaning (meaning_in objects f) t.port f fit) (plain (Cue.Refused NotAwaited) Prior.Nothing))
+  sound_message : (objects : ℕ) (f : Fields) (fit : Option Asked) (b : Bool) → Sound (cond b (met_meaning (meaning_in objects f) t.port f fit) (plain (Cue.Refused NotAwaited) Prior.Nothing))
   unfolding met_meaning
   sound_message objects f fit true = sound_meaning (meaning_in objects f) f fit (is_good_crc (meaning_in objects f))
   sound_message objects f fit false = refusing NotAwaited
 
-  sound_reading : (r : Reading) (s : List ℕ) → Sound (met_reading r t.port s)
+  sound_reading : (r : Result Message Refusal) (s : List ℕ) → Sound (met_reading r t.port s)
   unfolding met_message
-  sound_reading (Reading.Message objects f) s = sound_message objects f (fit_of objects (first_object (part_of s)) t.port.last) (listens (state_of t.port))
-  sound_reading (Reading.Refused r) s = refusing r
+  sound_reading (Ok m) s = sound_message m.objects m.fields (fit_of m.objects (first_object (part_of s)) t.port.last) (listens (state_of t.port))
+  sound_reading (Err r) s = refusing r
 
   sound_packet : (s : List ℕ) → Sound (met_packet t.port s)
   unfolding met_packet

@@ -3,15 +3,11 @@
 use Rattle.std.specs.Prelude.{ℕ, Bool, true, false, cond, not, ◌&&◌, List}
 use Rattle.ground.specs.declared.Refusal.{Refusal}
 use Rattle.ground.specs.declared.Refusal.TheVariants.{BadOffer, NotAwaited}
-use Rattle.ground.specs.declared.Verdict.{Verdict}
-use Rattle.ground.specs.declared.Verdict.TheVariants.{Fine, Refused}
 use Rattle.message.specs.declared.Fields.{Fields}
 use Rattle.meaning.specs.declared.Meaning.{Meaning}
-use Rattle.reading.specs.declared.Reading.{Reading}
 use Rattle.reading.specs.Reading.{read_of, part_of}
 use Rattle.offers.specs.declared.Asked.{Asked}
 use Rattle.offers.specs.declared.Offer.{Offer}
-use Rattle.offers.specs.declared.Fit.{Fit}
 use Rattle.offers.specs.Offers.{good_offer}
 use Rattle.offers.specs.Requests.{fit_of}
 use Rattle.outgoing.specs.declared.Packet.{Packet}
@@ -25,9 +21,6 @@ use Rattle.power.specs.declared.Power.{Power}
 use Rattle.power.specs.Power.{nothing_asked, judges}
 use Rattle.source.specs.declared.Stimulus.{Stimulus}
 use Rattle.source.specs.declared.Timer.{Timer}
-use Rattle.source.specs.declared.Timer.TheVariants.{NoTimer}
-use Rattle.source.specs.declared.Lead.{Lead}
-use Rattle.source.specs.declared.Lead.TheVariants.{Refuse, To}
 use Rattle.source.specs.declared.Way.{Way}
 use Rattle.source.specs.States.{listens}
 use Rattle.stimuli.specs.Leads.{leads}
@@ -46,6 +39,9 @@ use Rattle.plan.specs.declared.Prior.{Prior}
 use Rattle.plan.specs.declared.Cue.{Cue}
 use Rattle.plan.specs.declared.Met.{Met}
 use Rattle.plan.specs.declared.Plan.{Plan}
+use Rattle.ground.specs.Refusals.{Verdict}
+use Rattle.std.specs.Prelude.{Some, None, Ok, Err, Option, Result}
+use Rattle.reading.specs.declared.Message.{Message}
 
 -- ---- what comes to a port, once the protocol rules have been asked
 abbrev pub plain : Cue → Prior → Met
@@ -72,7 +68,7 @@ met_event c Event.No = plain (Cue.Meets Stimulus.No false) Prior.Nothing
 abbrev pub met_repeat : Fields → Met
 met_repeat f = record { cue = Cue.Done; prior = Prior.Nothing; crc = crc_for f; asked = nothing_asked }
 
-abbrev pub met_new : Fields → Meaning → Fit → Met
+abbrev pub met_new : Fields → Meaning → Option Asked → Met
 met_new f m fit = record { cue = Cue.Hears (heard_as m f.message_type fit); prior = Prior.Heard f.message_id (is_soft_reset m); crc = crc_for f; asked = asked_by fit }
 
 abbrev pub is_good_crc : Meaning → Bool
@@ -84,18 +80,18 @@ is_good_crc Meaning.SoftReset = false
 is_good_crc Meaning.Quiet = false
 is_good_crc Meaning.Request = false
 
-unfoldable pub met_meaning : Meaning → Port → Fields → Fit → Met
+unfoldable pub met_meaning : Meaning → Port → Fields → Option Asked → Met
 met_meaning m p f fit =
     cond (is_good_crc m) (met_outcome (on_good_crc p.channel f.message_id) Cue.Done)
     (cond (is_repeat p.channel f.message_id && not (is_soft_reset m)) (met_repeat f)
     (met_new f m fit))
 
-unfoldable pub met_message : Port → ℕ → Fields → Fit → Met
+unfoldable pub met_message : Port → ℕ → Fields → Option Asked → Met
 met_message p objects f fit = cond (listens (state_of p)) (met_meaning (meaning_in objects f) p f fit) (plain (Cue.Refused NotAwaited) Prior.Nothing)
 
-abbrev pub met_reading : Reading → Port → List ℕ → Met
-met_reading (Reading.Message objects f) p s = met_message p objects f (fit_of objects (first_object (part_of s)) p.last)
-met_reading (Reading.Refused r) p s = plain (Cue.Refused r) Prior.Nothing
+abbrev pub met_reading : Result Message Refusal → Port → List ℕ → Met
+met_reading (Ok m) p s = met_message p m.objects m.fields (fit_of m.objects (first_object (part_of s)) p.last)
+met_reading (Err r) p s = plain (Cue.Refused r) Prior.Nothing
 
 unfoldable pub met_packet : Port → List ℕ → Met
 met_packet p s = met_reading (read_of s) p s
@@ -105,10 +101,10 @@ met_offer limit o = cond (good_offer limit o) (plain (Cue.Meets Stimulus.NewOffe
 
 -- ---- what is to be done
 abbrev pub refuses : Refusal → Plan
-refuses r = record { verdict = Refused r; prior = Prior.Nothing; crc = no_crc; runs = NoTimer; change = Change.Nothing; way = Way.Stay; asks = false; asked = nothing_asked }
+refuses r = record { verdict = Err r; prior = Prior.Nothing; crc = no_crc; runs = None; change = Change.Nothing; way = Way.Stay; asks = false; asked = nothing_asked }
 
-abbrev pub goes : Met → Timer → Change → Bool → Way → Plan
-goes m runs change asks way = record { verdict = Fine; prior = m.prior; crc = m.crc; runs = runs; change = change; way = way; asks = asks; asked = m.asked }
+abbrev pub goes : Met → Option Timer → Change → Bool → Way → Plan
+goes m runs change asks way = record { verdict = Ok tt; prior = m.prior; crc = m.crc; runs = runs; change = change; way = way; asks = asks; asked = m.asked }
 
 abbrev pub is_judge : Way → Bool
 is_judge Way.Stay = false
@@ -132,21 +128,21 @@ is_judge Way.HardHeard = false
 is_judge Way.Default = false
 is_judge Way.Detached = false
 
-abbrev pub still_runs : Bool → Timer → Timer
-still_runs true t = NoTimer
+abbrev pub still_runs : Bool → Option Timer → Option Timer
+still_runs true t = None
 still_runs false t = t
 
-abbrev pub plan_led : Lead → Stimulus → Bool → Port → Met → Plan
-plan_led Refuse e expired p m = refuses NotAwaited
-plan_led (To way) e expired p m = goes m (still_runs expired (running_in p)) (change_of (state_of p) e) false way
+abbrev pub plan_led : Option Way → Stimulus → Bool → Port → Met → Plan
+plan_led None e expired p m = refuses NotAwaited
+plan_led (Some way) e expired p m = goes m (still_runs expired (running_in p)) (change_of (state_of p) e) false way
 
-abbrev pub plan_heard : Lead → Port → Met → Plan
-plan_heard Refuse p m = refuses NotAwaited
-plan_heard (To way) p m = goes m (running_in p) Change.Nothing (is_judge way) way
+abbrev pub plan_heard : Option Way → Port → Met → Plan
+plan_heard None p m = refuses NotAwaited
+plan_heard (Some way) p m = goes m (running_in p) Change.Nothing (is_judge way) way
 
 abbrev pub plan_by : Cue → Port → Met → Plan
 plan_by (Cue.Refused r) p m = refuses r
-plan_by Cue.Done p m = goes m NoTimer Change.Nothing false Way.Stay
+plan_by Cue.Done p m = goes m None Change.Nothing false Way.Stay
 plan_by (Cue.Meets e expired) p m = plan_led (leads (state_of p) e (facts_of p)) e expired p m
 plan_by (Cue.Hears h) p m = plan_heard (on_packet (state_of p) h) p m
 
@@ -233,8 +229,8 @@ unfoldable pub performed : Port → Offer → Plan → Answer
 performed p o x = resends x.prior p.channel.pending.packet (turn (judging x.asks x.asked (after x.prior o p)) (state_of p) x.crc x.runs x.change x.way x.asked)
 
 abbrev pub done_by : Verdict → Port → Offer → Plan → Answer
-done_by Fine p o x = performed p o x
-done_by (Refused r) p o x = refused_by r p
+done_by (Ok _) p o x = performed p o x
+done_by (Err r) p o x = refused_by r p
 
 abbrev pub done_plan : Port → Offer → Plan → Answer
 done_plan p o x = done_by x.verdict p o x

@@ -9,8 +9,6 @@ use lib.ListN.{length, drop, set, length-drop, length-set}
 use lib.Seq.{drop-drop, get_or-set_same}
 use borrow.Author.Tests.{leb-true}
 use Rattle.ground.specs.declared.Refusal.TheVariants.{NotInRack}
-use Rattle.ground.specs.declared.Verdict.{Verdict}
-use Rattle.ground.specs.declared.Verdict.TheVariants.{Fine, Refused}
 use Rattle.source.specs.declared.State.{State}
 use Rattle.port.specs.declared.Answer.{Answer}
 use Rattle.port.specs.declared.Port.{Port}
@@ -34,6 +32,8 @@ use Rattle.playing.specs.declared.Played.{Played}
 use Rattle.playing.specs.Nights.{begun, answered, event_done, rack_after, is_accepted, set_up_done, field_done, is_readable, night_in, is_event, is_set_up, number_in, happening_in, stepped_by}
 use Rattle.playing.specs.Meeting.{held_by, Small}
 use Rattle.playing.proofs.Sums.{rack_in, weighs, small_still, sum_still}
+use Rattle.ground.specs.Refusals.{Verdict}
+use Rattle.std.specs.Prelude.{Ok, Err}
 
 -- ---- one field of the definition
 read_on : (n : ℕ) (p : Played) (l : List ℕ) → 0 < n → is_readable (next_of l) l ≡ true → night_in n p l ≡ night_in (n - 1) (field_done (next_of l) p l) (drop (size_of l) l)
@@ -114,7 +114,7 @@ module _ (r : Rack) (tally : Tally) (place number : ℕ) (h : Happening) (f : Li
   unfolding step
   answered_step a e q = rw (e, q) refl
 
-  refused_there : in_rack r number ≡ false → event_done (record { rack = r; tally = tally; at = place }) number h f ≡ record { rack = r; tally = told tally number (Refused NotInRack) no_actions State.Detached State.Detached 0; at = place + size_of f }
+  refused_there : in_rack r number ≡ false → event_done (record { rack = r; tally = tally; at = place }) number h f ≡ record { rack = r; tally = told tally number (Err NotInRack) no_actions State.Detached State.Detached 0; at = place + size_of f }
   unfolding event_done answered
   refused_there e = rw (refused_step e) (rw e refl)
 
@@ -184,7 +184,7 @@ module _ {r : Rack} {t : Tally} {s : List ℕ} {slots : List Slot} {count supply
     by_number : field_done found (held_by slots count supply tally place) f ≡ event_done (held_by slots count supply tally place) number (happening_in found f) f
     by_number = event_done_lem found (held_by slots count supply tally place) f e ∙ ap (λ (n : ℕ). event_done (held_by slots count supply tally place) n (happening_in found f) f) (sym isnumber)
 
-    pub absent : in_rack (rack_in slots count supply) number ≡ false → (tally' : Tally) → tally' ≡ told tally number (Refused NotInRack) no_actions State.Detached State.Detached 0 →
+    pub absent : in_rack (rack_in slots count supply) number ≡ false → (tally' : Tally) → tally' ≡ told tally number (Err NotInRack) no_actions State.Detached State.Detached 0 →
         Kept r t s slots count supply sum tally' (place + size_of f) (left - 1)
     absent k tally' q =
         goes_on (event_readable found f e) (event_reaches e) slots count supply sum tally'
@@ -242,13 +242,13 @@ module _ {r : Rack} {t : Tally} {s : List ℕ} {slots : List Slot} {count supply
     refused_set_up n = by_verdict_lem started.verdict refl n
       where
         by_verdict_lem : (v : Verdict) → started.verdict ≡ v → is_accepted v ≡ false → Kept r t s slots count supply sum tally' (place + size_of f) (left - 1)
-        by_verdict_lem Fine q n = true_not_false n
-        by_verdict_lem (Refused x) q n = goes_on laid (set_up_reaches e) slots count supply sum tally' (set_up_there (Refused x) q) inv.long inv.small inv.sum_is
+        by_verdict_lem (Ok _) q n = true_not_false n
+        by_verdict_lem (Err x) q n = goes_on laid (set_up_reaches e) slots count supply sum tally' (set_up_there (Err x) q) inv.long inv.small inv.sum_is
 
     pub accepted_set_up_lem : is_accepted started.verdict ≡ true → (sum' : ℕ) → length started.rack.slots ≡ most_ports → (sum' ≡ loads started.rack) × Small started.rack →
         Kept r t s started.rack.slots started.rack.count started.rack.supply sum' tally' (place + size_of f) (left - 1)
     accepted_set_up_lem n sum' l m = by_verdict_lem started.verdict refl n
       where
         by_verdict_lem : (v : Verdict) → started.verdict ≡ v → is_accepted v ≡ true → Kept r t s started.rack.slots started.rack.count started.rack.supply sum' tally' (place + size_of f) (left - 1)
-        by_verdict_lem Fine q n = goes_on laid (set_up_reaches e) started.rack.slots started.rack.count started.rack.supply sum' tally' (set_up_there Fine q) l m.1 m.0
-        by_verdict_lem (Refused x) q n = true_not_false (sym n)
+        by_verdict_lem (Ok _) q n = goes_on laid (set_up_reaches e) started.rack.slots started.rack.count started.rack.supply sum' tally' (set_up_there (Ok tt) q) l m.1 m.0
+        by_verdict_lem (Err x) q n = true_not_false (sym n)

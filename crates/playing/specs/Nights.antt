@@ -1,8 +1,6 @@
 -- A night played over a rack, field by field: each event is a step of the rack, each good set-up gives a rack anew. docs/NIGHT.md says which fields there are,
 -- docs/REPLAY.md what is counted.
 use Rattle.std.specs.Prelude.{ℕ, zero, suc, ◌+◌, Bool, true, false, cond, List, drop}
-use Rattle.ground.specs.declared.Verdict.{Verdict}
-use Rattle.ground.specs.declared.Verdict.TheVariants.{Fine, Refused}
 use Rattle.source.specs.declared.State.{State}
 use Rattle.port.specs.declared.Answer.{Answer}
 use Rattle.port.specs.declared.Event.{Event}
@@ -23,6 +21,8 @@ use Rattle.night.specs.SetUps.{set_up_in}
 use Rattle.tally.specs.declared.Tally.{Tally}
 use Rattle.tally.specs.Counts.{told, set_up_told}
 use Rattle.playing.specs.declared.Played.{Played}
+use Rattle.ground.specs.Refusals.{Verdict}
+use Rattle.std.specs.Prelude.{Ok, Err}
 
 -- nothing has been played
 abbrev pub begun : Rack → Tally → Played
@@ -47,12 +47,12 @@ event_done p number h l = answered p number (size_of l) (step p.rack number h)
 
 -- "A bad one changes nothing"; "the rack before is put away"
 abbrev pub rack_after : Verdict → Rack → Rack → Rack
-rack_after Fine new old = new
-rack_after (Refused r) new old = old
+rack_after (Ok _) new old = new
+rack_after (Err r) new old = old
 
 abbrev pub is_accepted : Verdict → Bool
-is_accepted Fine = true
-is_accepted (Refused r) = false
+is_accepted (Ok _) = true
+is_accepted (Err r) = false
 
 unfoldable pub set_up_done : Played → Started → ℕ → Played
 set_up_done p s size = record { rack = rack_after s.verdict s.rack p.rack; tally = set_up_told p.tally s.verdict; at = p.at + size }

@@ -8,32 +8,33 @@ use Rattle.offers.specs.declared.Asked.{Asked}
 use Rattle.power.specs.Power.{judges}
 use Rattle.source.specs.declared.State.{State}
 use Rattle.source.specs.declared.Timer.{Timer}
-use Rattle.source.specs.declared.Timer.TheVariants.{NoTimer, SenderResponse, SourceCapability, PsHardReset}
+use Rattle.source.specs.declared.Timer.TheVariants.{SenderResponse, SourceCapability, PsHardReset}
 use Rattle.source.specs.declared.Way.{Way}
 use Rattle.source.specs.declared.Way.TheVariants.{Stay, Offered, Softened, HardHeard}
 use Rattle.port.specs.declared.Supply.{Supply}
-use Rattle.port.specs.declared.Supply.TheVariants.{Unchanged, Position}
+use Rattle.port.specs.declared.Supply.TheVariants.{Position}
 use Rattle.port.specs.declared.Port.{Port}
 use Rattle.port.specs.declared.Entered.{Entered}
 use Rattle.port.specs.Parts.{to, channel_is, gone_out_is, last_is, power_is, count_is, connected_is}
 use Rattle.port.specs.Memory.{most_offers}
+use Rattle.std.specs.Prelude.{Some, None, Option}
 
 -- ---- a port, with at most one thing done
-abbrev pub doing : Port → Packet → Bool → Supply → Timer → Entered
+abbrev pub doing : Port → Packet → Bool → Option Supply → Option Timer → Entered
 doing p m signal supply start = record { port = p; transmit = m; hard_reset = signal; supply = supply; start = start }
 
 abbrev pub quiet : Port → Entered
-quiet p = doing p no_packet false Unchanged NoTimer
+quiet p = doing p no_packet false None None
 
-abbrev pub starts : Timer → Port → Entered
-starts t p = doing p no_packet false Unchanged t
+abbrev pub starts : Option Timer → Port → Entered
+starts t p = doing p no_packet false None t
 
-abbrev pub supplies : Supply → Port → Entered
-supplies x p = doing p no_packet false x NoTimer
+abbrev pub supplies : Option Supply → Port → Entered
+supplies x p = doing p no_packet false x None
 
 -- a message goes out for the first time, and is pending
 abbrev pub transmits : Packet → Port → Entered
-transmits m p = doing (channel_is (sends p.channel m) p) m false Unchanged NoTimer
+transmits m p = doing (channel_is (sends p.channel m) p) m false None None
 
 -- a control message of ours, with the counter as its MessageID
 abbrev pub tells : ℕ → Port → Entered
@@ -57,18 +58,18 @@ unchannelled p = channel_is fresh p
 
 -- Hard: "pending dropped, counter 0, stored cleared, signal (not if heard), start PSHardReset"
 abbrev pub hardened : Bool → Port → Entered
-hardened signal p = doing (to State.Hard (unchannelled p)) no_packet signal Unchanged PsHardReset
+hardened signal p = doing (to State.Hard (unchannelled p)) no_packet signal None (Some PsHardReset)
 
 unfoldable pub enter : Way → Asked → Port → Entered
 enter Stay a p = quiet p
-enter Offered a p = starts SenderResponse (count_is 0 (connected_is true p))
-enter Softened a p = starts SenderResponse p
+enter Offered a p = starts (Some SenderResponse) (count_is 0 (connected_is true p))
+enter Softened a p = starts (Some SenderResponse) p
 enter Way.Offer a p = transmits (capabilities p) (to State.Offer (offering p))
-enter Way.Discovery a p = starts SourceCapability (to State.Discovery p)
+enter Way.Discovery a p = starts (Some SourceCapability) (to State.Discovery p)
 enter Way.Disabled a p = quiet (to State.Disabled p)
 enter Way.Judge a p = quiet (to State.Judge (power_is (judges p.power a) p))
 enter Way.Accepting a p = tells Types.Accept (to State.Accepting p)
-enter Way.Moving a p = supplies (Position p.power.accepted.position) (to State.Moving p)
+enter Way.Moving a p = supplies (Some (Position p.power.accepted.position)) (to State.Moving p)
 enter Way.Telling a p = tells Types.PsRdy (to State.Telling p)
 enter Way.Ready a p = quiet (to State.Ready p)
 enter Way.Declining a p = tells Types.NotSupported (to State.Declining p)
@@ -78,5 +79,5 @@ enter Way.Soft a p = tells Types.SoftReset (to State.Soft (unchannelled p))
 enter Way.Answering a p = tells Types.Accept (to State.Answering p)
 enter Way.Hard a p = hardened true p
 enter HardHeard a p = hardened false p
-enter Way.Default a p = supplies Supply.Default (to State.Default p)
+enter Way.Default a p = supplies (Some Supply.Default) (to State.Default p)
 enter Way.Detached a p = quiet (to State.Detached p)

@@ -1,7 +1,6 @@
 -- "The port's memory and its actions": the memory at attach, what the states ask of it, and an answer without actions.
 use Rattle.std.specs.Prelude.{ℕ, Bool, false, [], ◌∷◌, leb, replicate}
 use Rattle.ground.specs.declared.Refusal.{Refusal}
-use Rattle.ground.specs.declared.Verdict.TheVariants.{Refused}
 use Rattle.offers.specs.declared.Offer.{Offer}
 use Rattle.outgoing.specs.Packets.{no_packet}
 use Rattle.channel.specs.Channel.{is_pending, fresh}
@@ -9,17 +8,15 @@ use Rattle.power.specs.declared.Change.{Change}
 use Rattle.power.specs.Power.{none, standing_of}
 use Rattle.source.specs.declared.State.{State}
 use Rattle.source.specs.declared.Timer.{Timer}
-use Rattle.source.specs.declared.Timer.TheVariants.{NoTimer}
 use Rattle.source.specs.declared.Facts.{Facts}
 use Rattle.source.specs.States.{running}
-use Rattle.port.specs.declared.Supply.TheVariants.{Unchanged}
-use Rattle.port.specs.declared.GoodCrc.{GoodCrc}
 use Rattle.port.specs.declared.Actions.{Actions}
 use Rattle.port.specs.declared.Port.{Port}
 use Rattle.port.specs.declared.Answer.{Answer}
+use Rattle.std.specs.Prelude.{None, Err, Option}
 
 abbrev pub state_of : Port → State
-state_of p = p.phase.state
+state_of p = p.state
 
 abbrev pub no_offer : Offer
 no_offer = record { objects = replicate 7 0; count = 0 }
@@ -60,15 +57,15 @@ facts_of p =
     }
 
 -- the timer that runs
-abbrev pub running_in : Port → Timer
+abbrev pub running_in : Port → Option Timer
 running_in p = running (state_of p) (pending_in p)
 
-abbrev pub no_crc : GoodCrc
+abbrev pub no_crc : Option (List ℕ)
 no_crc = record { sent = false; bytes = 0 ∷ (0 ∷ []) }
 
 abbrev pub no_actions : Actions
-no_actions = record { good_crc = no_crc; stop = NoTimer; transmit = no_packet; hard_reset = false; supply = Unchanged; start = NoTimer }
+no_actions = record { good_crc = no_crc; stop = None; transmit = no_packet; hard_reset = false; supply = None; start = None }
 
 -- "A refusal returns its number only": the same port, and no action
 abbrev pub refused_by : Refusal → Port → Answer
-refused_by r p = record { verdict = Refused r; port = p; actions = no_actions; held = Change.Nothing }
+refused_by r p = record { verdict = Err r; port = p; actions = no_actions; held = Change.Nothing }

@@ -1,7 +1,6 @@
 -- The step of a port: what the protocol rules do to its channel, what happens to held power, and where the states lead.
 use Rattle.std.specs.Prelude.{ℕ, Bool, true, false}
 use Rattle.ground.specs.declared.Refusal.TheVariants.{BadOffer, NotAwaited}
-use Rattle.ground.specs.declared.Verdict.TheVariants.{Fine}
 use Rattle.offers.specs.declared.Asked.{Asked}
 use Rattle.offers.specs.declared.Offer.{Offer}
 use Rattle.offers.specs.Offers.{good_offer}
@@ -14,15 +13,10 @@ use Rattle.power.specs.Power.{nothing_asked, changed}
 use Rattle.source.specs.declared.State.{State}
 use Rattle.source.specs.declared.Stimulus.{Stimulus}
 use Rattle.source.specs.declared.Timer.{Timer}
-use Rattle.source.specs.declared.Timer.TheVariants.{NoTimer}
-use Rattle.source.specs.declared.Lead.{Lead}
-use Rattle.source.specs.declared.Lead.TheVariants.{Refuse, To}
 use Rattle.source.specs.declared.Way.{Way}
 use Rattle.source.specs.States.{stopped}
 use Rattle.stimuli.specs.Leads.{leads}
 use Rattle.source.specs.Changes.{change_of}
-use Rattle.port.specs.declared.Supply.TheVariants.{Unchanged}
-use Rattle.port.specs.declared.GoodCrc.{GoodCrc}
 use Rattle.port.specs.declared.Port.{Port}
 use Rattle.port.specs.declared.Answer.{Answer}
 use Rattle.port.specs.declared.Entered.{Entered}
@@ -30,6 +24,7 @@ use Rattle.port.specs.declared.Event.{Event}
 use Rattle.port.specs.Parts.{channel_is, newest_is, gone_out_is, power_is, count_is, connected_is}
 use Rattle.port.specs.Memory.{state_of, cleared, facts_of, running_in, no_crc, refused_by}
 use Rattle.port.specs.Entering.{doing, quiet, enter}
+use Rattle.std.specs.Prelude.{Some, None, Ok, Option}
 
 -- Default ready: "contract, held, count and connected cleared"
 abbrev pub with_change : Change → Port → Port
@@ -39,27 +34,27 @@ with_change Change.InForce p = power_is (changed Change.InForce p.power) p
 with_change Change.GivenUp p = count_is 0 (connected_is false (power_is (changed Change.GivenUp p.power) p))
 
 -- the whole answer: GoodCRC, the timer that ran before if the state is left, and what was done on entering
-abbrev pub answered : State → GoodCrc → Timer → Change → Entered → Answer
+abbrev pub answered : State → Option (List ℕ) → Option Timer → Change → Entered → Answer
 answered before crc runs change e =
     record {
-      verdict = Fine;
+      verdict = Ok tt;
       port = e.port;
       actions = record { good_crc = crc; stop = stopped before (state_of e.port) runs; transmit = e.transmit; hard_reset = e.hard_reset; supply = e.supply; start = e.start };
       held = change;
     }
 
 -- a port that was in a state goes where the rules lead
-unfoldable pub turn : Port → State → GoodCrc → Timer → Change → Way → Asked → Answer
+unfoldable pub turn : Port → State → Option (List ℕ) → Option Timer → Change → Way → Asked → Answer
 turn p before crc runs change way a = answered before crc runs change (enter way a (with_change change p))
 
 -- ---- what can happen, new packets aside
 -- where the rules lead nowhere the event is refused; else the port, as the protocol rules leave it, goes where they lead
-abbrev pub led_to : Port → Stimulus → Port → Timer → Lead → Answer
-led_to p e after runs Refuse = refused_by NotAwaited p
-led_to p e after runs (To way) = turn after (state_of p) no_crc runs (change_of (state_of p) e) way nothing_asked
+abbrev pub led_to : Port → Stimulus → Port → Option Timer → Option Way → Answer
+led_to p e after runs None = refused_by NotAwaited p
+led_to p e after runs (Some way) = turn after (state_of p) no_crc runs (change_of (state_of p) e) way nothing_asked
 
 -- port p meets a stimulus: `after` is p with its channel after the protocol rules, `runs` the timer that still runs
-unfoldable pub happens : Port → Stimulus → Port → Timer → Answer
+unfoldable pub happens : Port → Stimulus → Port → Option Timer → Answer
 happens p e after runs = led_to p e after runs (leads (state_of p) e (facts_of p))
 
 -- "acknowledges: counter plus one"; "the send has failed: counter plus one"
@@ -74,7 +69,7 @@ failed p = happens p Stimulus.Failed (ending p) (running_in p)
 
 -- "sends the same bytes again"
 unfoldable pub resent : Port → Answer
-resent p = answered (state_of p) no_crc NoTimer Change.Nothing (doing (channel_is (again p.channel) p) p.channel.pending.packet false Unchanged NoTimer)
+resent p = answered (state_of p) no_crc None Change.Nothing (doing (channel_is (again p.channel) p) p.channel.pending.packet false None None)
 
 -- "With nothing pending a GoodCRC does nothing and the timer is refusal 8."
 unfoldable pub by_outcome : Outcome → Answer → Port → Answer
@@ -83,8 +78,8 @@ by_outcome Acknowledged none' p = acknowledged p
 by_outcome Again none' p = resent p
 by_outcome Failed none' p = failed p
 
-unfoldable pub nothing_done : GoodCrc → Port → Answer
-nothing_done crc p = answered (state_of p) crc NoTimer Change.Nothing (quiet p)
+unfoldable pub nothing_done : Option (List ℕ) → Port → Answer
+nothing_done crc p = answered (state_of p) crc None Change.Nothing (quiet p)
 
 -- ---- the events
 -- "Leaving a state stops its running timer; one that has expired no longer runs."
@@ -93,9 +88,9 @@ event_of p Event.Attach = happens p Stimulus.Attach (cleared p) (running_in p)
 event_of p Event.Detach = happens p Stimulus.Detach (cleared p) (running_in p)
 event_of p Event.HardReset = happens p Stimulus.HardReset p (running_in p)
 event_of p Event.Acknowledgement = by_outcome (on_expiry p.channel) (refused_by NotAwaited p) p
-event_of p Event.SenderResponse = happens p Stimulus.SenderResponse p NoTimer
-event_of p Event.SourceCapability = happens p Stimulus.SourceCapability p NoTimer
-event_of p Event.PsHardReset = happens p Stimulus.PsHardReset p NoTimer
+event_of p Event.SenderResponse = happens p Stimulus.SenderResponse p None
+event_of p Event.SourceCapability = happens p Stimulus.SourceCapability p None
+event_of p Event.PsHardReset = happens p Stimulus.PsHardReset p None
 event_of p Event.SupplyReady = happens p Stimulus.SupplyReady p (running_in p)
 event_of p Event.Yes = happens p Stimulus.Yes p (running_in p)
 event_of p Event.No = happens p Stimulus.No p (running_in p)

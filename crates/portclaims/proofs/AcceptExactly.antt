@@ -9,12 +9,9 @@ use lib.Dec.{T, eqb}
 use Rattle.message.specs.declared.Fields.{Fields}
 use Rattle.message.specs.Types as Types
 use Rattle.meaning.specs.declared.Meaning.{Meaning}
-use Rattle.reading.specs.declared.Reading.{Reading}
 use Rattle.reading.specs.Reading.{read_of, part_of}
 use Rattle.offers.specs.declared.Asked.{Asked}
 use Rattle.offers.specs.declared.Offer.{Offer}
-use Rattle.offers.specs.declared.Fit.{Fit}
-use Rattle.offers.specs.declared.Fit.TheVariants.{Fits}
 use Rattle.offers.specs.Requests.{fits, asked, judged, fit_of}
 use Rattle.outgoing.specs.Packets.{no_packet, control_of}
 use Rattle.channel.specs.Channel.{is_repeat}
@@ -25,8 +22,6 @@ use Rattle.source.specs.declared.Stimulus.{Stimulus}
 use Rattle.source.specs.declared.Timer.{Timer}
 use Rattle.source.specs.declared.Heard.{Heard}
 use Rattle.source.specs.declared.Facts.{Facts}
-use Rattle.source.specs.declared.Lead.{Lead}
-use Rattle.source.specs.declared.Lead.TheVariants.{Refuse, To}
 use Rattle.source.specs.declared.Way.{Way}
 use Rattle.source.specs.States.{same, listens}
 use Rattle.stimuli.specs.Leads.{leads}
@@ -50,6 +45,8 @@ use Rattle.portclaims.proofs.Led.{turn_state, led_state, at_way, is_same}
 use Rattle.portclaims.proofs.Ways as Ways
 use Rattle.portclaims.proofs.Tables as Tables
 use Rattle.portclaims.proofs.Shapes.{Rule, by_attach, by_detach, by_hard_reset, by_acknowledgement, by_failure, by_sender_response, by_source_capability, by_ps_hard_reset, by_supply_ready, by_yes, by_no, by_offer_lem, New, fit_in, Shape, refused, idle, again, led, heard, shape}
+use Rattle.reading.specs.Reading.{message_with}
+use Rattle.std.specs.Prelude.{Some, None, Option}
 
 -- the bytes s are a new Request to port p that comes awaited or in Ready and fits the last offer put on the wire
 pub record FittingRequest (p : Port) (s : List ℕ) : Type 0 where
@@ -60,7 +57,7 @@ pub record FittingRequest (p : Port) (s : List ℕ) : Type 0 where
   pub fitting : fits objects (first_object (part_of s)) p.last ≡ true
 
 -- ---- where it says so, the port asks the power rule
-to_judge : (s : State) → awaits_request s ≡ true → on_packet s Heard.FittingRequest ≡ To Way.Judge
+to_judge : (s : State) → awaits_request s ≡ true → on_packet s Heard.FittingRequest ≡ Some Way.Judge
 unfolding on_packet
 to_judge State.Offer e = refl
 to_judge State.Discovery e = refl
@@ -98,7 +95,7 @@ listens_then State.Hard e = true_not_false (sym e)
 listens_then State.Default e = true_not_false (sym e)
 
 -- the same, part by part
-module _ (p : Port) (s : List ℕ) (n : ℕ) (f : Fields) (read : read_of s ≡ Reading.Message n f) (request : meaning_in n f ≡ Meaning.Request) where
+module _ (p : Port) (s : List ℕ) (n : ℕ) (f : Fields) (read : read_of s ≡ message_with n f) (request : meaning_in n f ≡ Meaning.Request) where
   pub fitting_request : is_repeat p.channel f.message_id ≡ false → awaits_request (state_of p) ≡ true →
       fits n (first_object (part_of s)) p.last ≡ true → FittingRequest p s
   fitting_request new awaited fit =
@@ -110,14 +107,14 @@ module _ (p : Port) (s : List ℕ) (n : ℕ) (f : Fields) (read : read_of s ≡ 
         fitting = fit;
       }
 
-same_message : (m n : ℕ) (f g : Fields) → Reading.Message m f ≡ Reading.Message n g → (m ≡ n) × (f ≡ g)
+same_message : (m n : ℕ) (f g : Fields) → message_with m f ≡ message_with n g → (m ≡ n) × (f ≡ g)
 same_message m n f g e = (cc, cc)
 
 no_repeat : (b : Bool) → (b && true) ≡ false → b ≡ false
 no_repeat true e = e
 no_repeat false e = refl
 
-module _ (p : Port) (s : List ℕ) (n : ℕ) (f : Fields) (read : read_of s ≡ Reading.Message n f) (r : FittingRequest p s) where
+module _ (p : Port) (s : List ℕ) (n : ℕ) (f : Fields) (read : read_of s ≡ message_with n f) (r : FittingRequest p s) where
   pub its_parts :
       (is_repeat p.channel f.message_id ≡ false)
       × (awaits_request (state_of p) ≡ true)
@@ -133,7 +130,7 @@ module _ (p : Port) (s : List ℕ) (r : FittingRequest p s) where
   abbrev wanted : Asked
   wanted = asked (first_object (part_of s)) p.last
 
-  it_fits : fit_in p r.objects s ≡ Fits wanted
+  it_fits : fit_in p r.objects s ≡ Some wanted
   unfolding fit_of
   it_fits = rw r.fitting refl
 
@@ -150,15 +147,15 @@ module _ (p : Port) (s : List ℕ) (r : FittingRequest p s) where
       × ((step p (packet s)).port.power.held ≡ p.power.held)
       × ((step p (packet s)).actions.transmit ≡ no_packet)
       × ((step p (packet s)).actions.hard_reset ≡ false)
-      × ((step p (packet s)).actions.supply ≡ Supply.Unchanged)
-      × ((step p (packet s)).actions.start ≡ Timer.NoTimer)
+      × ((step p (packet s)).actions.supply ≡ None)
+      × ((step p (packet s)).actions.start ≡ None)
   unfolding step packet_of message_of by_meaning other_packet new_packet heard_as turn enter
   asks_quietly = rw (r.new.read, r.new.listening, r.new.meaning, r.new.fresh, it_fits, to_judge (state_of p) r.awaited) (refl, refl, refl, refl, refl, refl)
 
 -- ---- and only so
-abbrev judge_test : State → Stimulus → Lead → Bool
-judge_test s e Refuse = true
-judge_test s e (To way) = implies (not (same s State.Judge)) (not (same (Ways.state_after (Tables.ruled_state e s) way) State.Judge))
+abbrev judge_test : State → Stimulus → Option Way → Bool
+judge_test s e None = true
+judge_test s e (Some way) = implies (not (same s State.Judge)) (not (same (Ways.state_after (Tables.ruled_state e s) way) State.Judge))
 
 no_stimulus_asks : (s : State) (e : Stimulus) (f : Facts) → T (judge_test s e (leads s e f))
 unfolding leads
@@ -167,16 +164,16 @@ no_stimulus_asks = everywhere (λ s e f. judge_test s e (leads s e f)) tt
 abbrev is_fitting : Heard → Bool
 is_fitting h = same_heard h Heard.FittingRequest
 
-abbrev ask_test : State → Heard → Lead → Bool
-ask_test s h Refuse = true
-ask_test s h (To way) = implies (not (same s State.Judge) && same (Ways.state_after s way) State.Judge) (is_fitting h && awaits_request s)
+abbrev ask_test : State → Heard → Option Way → Bool
+ask_test s h None = true
+ask_test s h (Some way) = implies (not (same s State.Judge) && same (Ways.state_after s way) State.Judge) (is_fitting h && awaits_request s)
 
 only_fitting_asks : (s : State) (h : Heard) → T (ask_test s h (on_packet s h))
 unfolding on_packet
 only_fitting_asks = at_packets (λ s h. ask_test s h (on_packet s h)) tt
 
 -- what is heard as a fitting Request is one
-is_request_lem : (m : Meaning) (t : ℕ) (fit : Fit) → is_fitting (heard_as m t fit) ≡ true → m ≡ Meaning.Request
+is_request_lem : (m : Meaning) (t : ℕ) (fit : Option Asked) → is_fitting (heard_as m t fit) ≡ true → m ≡ Meaning.Request
 unfolding heard_as
 is_request_lem Meaning.Request t fit e = refl
 is_request_lem Meaning.Unsupported t fit e = true_not_false (sym e)
@@ -190,7 +187,7 @@ is_request_lem Meaning.Reply t fit e = by_type (eqb t Types.Accept) e
     by_type true e = true_not_false (sym e)
     by_type false e = true_not_false (sym e)
 
-heard_request : (t : ℕ) (fit : Fit) → is_fitting (heard_as Meaning.Request t fit) ≡ true → is_fitting (requested fit) ≡ true
+heard_request : (t : ℕ) (fit : Option Asked) → is_fitting (heard_as Meaning.Request t fit) ≡ true → is_fitting (requested fit) ≡ true
 unfolding heard_as
 heard_request t fit e = e
 
@@ -206,7 +203,7 @@ module _ (p : Port) (elsewhere : same (state_of p) State.Judge ≡ false) where
   stays : {A : Type 0} → state_of p ≡ State.Judge → A
   stays e = true_not_false (sym (is_same (state_of p) State.Judge e refl) ∙ elsewhere)
 
-  was_asked : (s : List ℕ) (n : ℕ) (f : Fields) (m : Meaning) (way : Way) → New p s n f m → on_packet (state_of p) (heard_as m f.message_type (fit_in p n s)) ≡ To way →
+  was_asked : (s : List ℕ) (n : ℕ) (f : Fields) (m : Meaning) (way : Way) → New p s n f m → on_packet (state_of p) (heard_as m f.message_type (fit_in p n s)) ≡ Some way →
       same (Ways.state_after (state_of p) way) State.Judge ≡ true → FittingRequest p s
   unfolding fit_of
   was_asked s n f m way new l e =
@@ -271,23 +268,23 @@ module _ (p : Port) (judging : state_of p ≡ State.Judge) where
   no_rejects = rw judging (refl, refl, refl, refl)
 
 -- ---- and only at yes
-abbrev accept_test : State → Stimulus → Lead → Bool
-accept_test s e Refuse = true
-accept_test s e (To way) = implies (not (same s State.Accepting) && same (Ways.state_after (Tables.ruled_state e s) way) State.Accepting) (same s State.Judge && is_yes e)
+abbrev accept_test : State → Stimulus → Option Way → Bool
+accept_test s e None = true
+accept_test s e (Some way) = implies (not (same s State.Accepting) && same (Ways.state_after (Tables.ruled_state e s) way) State.Accepting) (same s State.Judge && is_yes e)
 
 only_yes_accepts : (s : State) (e : Stimulus) (f : Facts) → T (accept_test s e (leads s e f))
 unfolding leads
 only_yes_accepts = everywhere (λ s e f. accept_test s e (leads s e f)) tt
 
-abbrev packet_accept_test : State → Lead → Bool
-packet_accept_test s Refuse = true
-packet_accept_test s (To way) = implies (not (same s State.Accepting)) (not (same (Ways.state_after s way) State.Accepting))
+abbrev packet_accept_test : State → Option Way → Bool
+packet_accept_test s None = true
+packet_accept_test s (Some way) = implies (not (same s State.Accepting)) (not (same (Ways.state_after s way) State.Accepting))
 
 no_packet_accepts : (s : State) (h : Heard) → T (packet_accept_test s (on_packet s h))
 unfolding on_packet
 no_packet_accepts = at_packets (λ s h. packet_accept_test s (on_packet s h)) tt
 
-yes_call : (p : Port) (c : Call) (e : Stimulus) (q : Port) (t : Timer) → Rule p c e q t → is_yes e ≡ true → c ≡ event Event.Yes
+yes_call : (p : Port) (c : Call) (e : Stimulus) (q : Port) (t : Option Timer) → Rule p c e q t → is_yes e ≡ true → c ≡ event Event.Yes
 yes_call p c e q t by_yes h = refl
 yes_call p c e q t by_attach h = true_not_false (sym h)
 yes_call p c e q t by_detach h = true_not_false (sym h)

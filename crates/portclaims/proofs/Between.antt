@@ -8,19 +8,15 @@ use mathlib.Core.List.{List, [], ◌∷◌}
 use lib.Dec.{T, ltb}
 use Rattle.offers.specs.declared.Asked.{Asked}
 use Rattle.offers.specs.declared.Offer.{Offer}
-use Rattle.channel.specs.declared.Stored.{Stored}
 use Rattle.channel.specs.declared.Channel.{Channel}
 use Rattle.channel.specs.Channel.{is_pending, fresh, ended, again, heard, sends}
 use Rattle.power.specs.declared.Change.{Change}
-use Rattle.power.specs.declared.Contract.{Contract}
 use Rattle.power.specs.Power.{nothing_asked, changed, standing_of, by_offer}
 use Rattle.offers.specs.Requests.{is_honoured}
 use Rattle.source.specs.declared.State.{State}
 use Rattle.source.specs.declared.Stimulus.{Stimulus}
 use Rattle.source.specs.declared.Timer.{Timer}
 use Rattle.source.specs.declared.Heard.{Heard}
-use Rattle.source.specs.declared.Lead.{Lead}
-use Rattle.source.specs.declared.Lead.TheVariants.{To}
 use Rattle.source.specs.declared.Way.{Way}
 use Rattle.source.specs.States.{same}
 use Rattle.stimuli.specs.Leads.{leads}
@@ -40,19 +36,20 @@ use Rattle.portclaims.proofs.Channels.{numbered_fresh, numbered_ended, numbered_
 use Rattle.portclaims.proofs.Tables as Tables
 use Rattle.portclaims.proofs.Led.{change_state, change_channel}
 use Rattle.portclaims.proofs.Shapes.{Rule, by_attach, by_detach, by_hard_reset, by_acknowledgement, by_failure, by_sender_response, by_source_capability, by_ps_hard_reset, by_supply_ready, by_yes, by_no, by_offer_lem, fit_in, Shape, refused, idle, again as sent_again, led, heard as is-heard, shape}
+use Rattle.std.specs.Prelude.{Some, None, Option}
 
 -- ---- the parts of what is relied on that a way keeps or makes
 abbrev Known : Port → Type 0
-Known p = (id : ℕ) → p.channel.stored ≡ Stored.Id id → p.connected ≡ true
+Known p = (id : ℕ) → p.channel.stored ≡ Some id → p.connected ≡ true
 
 abbrev Shown : Port → Type 0
 Shown p = p.gone_out ≡ true → p.newest ≡ p.last
 
-abbrev is_none : Stored → Bool
-is_none Stored.Nothing = true
-is_none (Stored.Id id) = false
+abbrev is_none : Option ℕ → Bool
+is_none None = true
+is_none (Some id) = false
 
-none_stored : {A : Type 0} (id : ℕ) → Stored.Nothing ≡ Stored.Id id → A
+none_stored : {A : Type 0} (id : ℕ) → None ≡ Some id → A
 none_stored id e = true_not_false (ap is_none e)
 
 known_enters : (w : Way) (a : Asked) (p : Port) → Known p → Known (enter w a p).port
@@ -195,10 +192,10 @@ module _ (p : Port) where
   change_holds Change.GivenUp before after t k e = refl
 
 -- ---- a stimulus
-made_by : (c : Contract) (o : Offer) → Tables.made_by (standing_of c o) ≡ is_made c
+made_by : (c : Option Asked) (o : Offer) → Tables.made_by (standing_of c o) ≡ is_made c
 unfolding standing_of
-made_by Contract.Nothing o = refl
-made_by (Contract.Made a) o = by_either (is_honoured a o)
+made_by None o = refl
+made_by (Some a) o = by_either (is_honoured a o)
   where
     by_either : (b : Bool) → Tables.made_by (by_offer b) ≡ true
     by_either true = refl
@@ -262,7 +259,7 @@ module _ (p : Port) (k : Between p) where
   as_it_was e s b g m x =
       record { state = s; pending = b; gone_out = g; made = m; numbered = k.numbered; reset = k.reset; known = k.known; shown = k.shown; held = k.holds; counted = k.counted; possible = x }
 
-  ruled : (c : Call) (e : Stimulus) (q : Port) (t : Timer) → Rule p c e q t → Ruled e q
+  ruled : (c : Call) (e : Stimulus) (q : Port) (t : Option Timer) → Rule p c e q t → Ruled e q
   ruled c e q t by_attach = ruled_cleared Stimulus.Attach refl refl refl refl refl
   ruled c e q t by_detach = ruled_cleared Stimulus.Detach refl refl refl refl refl
   ruled c e q t by_hard_reset = as_it_was Stimulus.HardReset refl refl refl refl refl
@@ -290,7 +287,7 @@ module _ (p : Port) (k : Between p) where
       }
 
   -- ---- led on by a stimulus
-  module _ (e : Stimulus) (q : Port) (r : Ruled e q) (way : Way) (a : Asked) (l : leads (state_of p) e (facts_of p) ≡ To way) where
+  module _ (e : Stimulus) (q : Port) (r : Ruled e q) (way : Way) (a : Asked) (l : leads (state_of p) e (facts_of p) ≡ Some way) where
     abbrev change : Change
     change = change_of (state_of p) e
 
@@ -300,8 +297,8 @@ module _ (p : Port) (k : Between p) where
     abbrev end : Port
     end = (enter way a changed_port).port
 
-    of_lead : (t : Lead → Bool) → T (t (leads (state_of p) e (facts_of p))) → T (t (To way))
-    of_lead t x = subst (λ (y : Lead). T (t y)) l x
+    of_lead : (t : Option Way → Bool) → T (t (leads (state_of p) e (facts_of p))) → T (t (Some way))
+    of_lead t x = subst (λ (y : Option Way). T (t y)) l x
 
     deaf : is_reset (Tables.ruled_state e (state_of p)) ≡ true → q.channel ≡ fresh
     deaf h = r.reset (rw r.state h)
@@ -360,15 +357,15 @@ module _ (p : Port) (k : Between p) where
         }
 
   -- ---- led on by a new packet
-  module _ (id : ℕ) (soft : Bool) (h : Heard) (way : Way) (a : Asked) (l : on_packet (state_of p) h ≡ To way) where
+  module _ (id : ℕ) (soft : Bool) (h : Heard) (way : Way) (a : Asked) (l : on_packet (state_of p) h ≡ Some way) where
     abbrev hearer : Port
     hearer = hearing p id soft
 
     abbrev after : Port
     after = (enter way a hearer).port
 
-    of_packet_lem : (t : Lead → Bool) → T (t (on_packet (state_of p) h)) → T (t (To way))
-    of_packet_lem t x = subst (λ (y : Lead). T (t y)) l x
+    of_packet_lem : (t : Option Way → Bool) → T (t (on_packet (state_of p) h)) → T (t (Some way))
+    of_packet_lem t x = subst (λ (y : Option Way). T (t y)) l x
 
     abbrev rested : Bool
     rested = not (is_reset (state_of p)) && implies (not (in_between (Ways.state_after (state_of p) way))) (not (in_between (state_of p)))

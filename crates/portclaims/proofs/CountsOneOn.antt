@@ -7,7 +7,6 @@ use lib.Dec.{T}
 use Rattle.message.specs.declared.Fields.{Fields}
 use Rattle.meaning.specs.declared.Meaning.{Meaning}
 use Rattle.offers.specs.declared.Asked.{Asked}
-use Rattle.offers.specs.declared.Fit.{Fit}
 use Rattle.channel.specs.declared.Channel.{Channel}
 use Rattle.channel.specs.Channel.{next_id, counter_after, ended, again as once-again, heard as hears}
 use Rattle.power.specs.declared.Change.{Change}
@@ -17,15 +16,12 @@ use Rattle.source.specs.declared.Stimulus.{Stimulus}
 use Rattle.source.specs.declared.Timer.{Timer}
 use Rattle.source.specs.declared.Heard.{Heard}
 use Rattle.source.specs.declared.Facts.{Facts}
-use Rattle.source.specs.declared.Lead.{Lead}
-use Rattle.source.specs.declared.Lead.TheVariants.{Refuse, To}
 use Rattle.source.specs.declared.Way.{Way}
 use Rattle.source.specs.States.{same}
 use Rattle.stimuli.specs.Leads.{leads}
 use Rattle.hearing.specs.Packets.{same_heard, on_packet}
 use Rattle.source.specs.Changes.{change_of}
 use Rattle.source.proofs.Finite.{everywhere, at_packets}
-use Rattle.port.specs.declared.GoodCrc.{GoodCrc}
 use Rattle.port.specs.declared.Port.{Port}
 use Rattle.port.specs.declared.Answer.{Answer}
 use Rattle.port.specs.Memory.{state_of, pending_in, facts_of, running_in, no_crc}
@@ -39,6 +35,7 @@ use Rattle.portclaims.proofs.Ways as Ways
 use Rattle.portclaims.proofs.Tables as Tables
 use Rattle.portclaims.proofs.Led.{change_channel, turn_state, led_state, at_way}
 use Rattle.portclaims.proofs.Shapes.{Rule, by_attach, by_detach, by_hard_reset, by_acknowledgement, by_failure, by_sender_response, by_source_capability, by_ps_hard_reset, by_supply_ready, by_yes, by_no, by_offer_lem, fit_in, Shape, refused, idle, again as sent_again, led, heard, shape}
+use Rattle.std.specs.Prelude.{Some, None, Option}
 
 abbrev pub starts_over : State → Bool
 starts_over s = (same s State.Soft || same s State.Hard) || (same s State.Answering || same s State.Detached)
@@ -76,7 +73,7 @@ over_there s Way.Default e = true_not_false (sym e)
 over_there s Way.Detached e = true_not_false (sym e)
 
 -- ---- a turn of a port whose counter has gone one on
-module _ (p q : Port) (s : State) (crc : GoodCrc) (t : Timer) (c : Change) (w : Way) (a : Asked) where
+module _ (p q : Port) (s : State) (crc : Option (List ℕ)) (t : Option Timer) (c : Change) (w : Way) (a : Asked) where
   abbrev pub end : Port
   end = (turn q s crc t c w a).port
 
@@ -112,9 +109,9 @@ module _ (p q : Port) (s : State) (crc : GoodCrc) (t : Timer) (c : Change) (w : 
 abbrev untouched_by : Stimulus → Bool
 untouched_by e = not (clears e || ends e)
 
-abbrev count_test : State → Stimulus → Facts → Lead → Bool
-count_test s e f Refuse = true
-count_test s e f (To way) =
+abbrev count_test : State → Stimulus → Facts → Option Way → Bool
+count_test s e f None = true
+count_test s e f (Some way) =
     implies (f.pending && pends s f.pending)
     (implies (untouched_by e) (Ways.is_over way || is_aside way) && implies (clears e) (starts_over (Ways.state_after (Tables.ruled_state e s) way)))
 
@@ -125,15 +122,15 @@ count_table = everywhere (λ s e f. count_test s e f (leads s e f)) tt
 abbrev pub is_soft : Heard → Bool
 is_soft h = same_heard h Heard.SoftReset
 
-abbrev pub soft_test : State → Heard → Lead → Bool
-soft_test s h Refuse = true
-soft_test s h (To way) = implies (is_soft h) (starts_over (Ways.state_after s way))
+abbrev pub soft_test : State → Heard → Option Way → Bool
+soft_test s h None = true
+soft_test s h (Some way) = implies (is_soft h) (starts_over (Ways.state_after s way))
 
 pub soft_table : (s : State) (h : Heard) → T (soft_test s h (on_packet s h))
 unfolding on_packet
 soft_table = at_packets (λ s h. soft_test s h (on_packet s h)) tt
 
-pub soft_heard : (m : Meaning) (t : ℕ) (fit : Fit) → is_soft_reset m ≡ true → is_soft (heard_as m t fit) ≡ true
+pub soft_heard : (m : Meaning) (t : ℕ) (fit : Option Asked) → is_soft_reset m ≡ true → is_soft (heard_as m t fit) ≡ true
 unfolding heard_as
 soft_heard Meaning.SoftReset t fit e = refl
 soft_heard Meaning.Unsupported t fit e = true_not_false (sym e)
@@ -144,7 +141,7 @@ soft_heard Meaning.Quiet t fit e = true_not_false (sym e)
 soft_heard Meaning.Request t fit e = true_not_false (sym e)
 
 module _ (p : Port) (k : Between p) (on : pending_in p ≡ true) where
-  module _ (c : Call) (e : Stimulus) (q : Port) (t : Timer) (rule : Rule p c e q t) (way : Way) (l : leads (state_of p) e (facts_of p) ≡ To way) where
+  module _ (c : Call) (e : Stimulus) (q : Port) (t : Option Timer) (rule : Rule p c e q t) (way : Way) (l : leads (state_of p) e (facts_of p) ≡ Some way) where
     abbrev after : Port
     after = (turn q (state_of p) no_crc t (change_of (state_of p) e) way nothing_asked).port
 
@@ -161,7 +158,7 @@ module _ (p : Port) (k : Between p) (on : pending_in p ≡ true) where
         rw (led_state p c e q t rule no_crc t (change_of (state_of p) e) way nothing_asked)
         (then (clears e) _ (so _ (second (implies (untouched_by e) (Ways.is_over way || is_aside way)) _ told)) u)
 
-  by_rule : (c : Call) (e : Stimulus) (q : Port) (t : Timer) (r : Rule p c e q t) (way : Way) (l : leads (state_of p) e (facts_of p) ≡ To way) →
+  by_rule : (c : Call) (e : Stimulus) (q : Port) (t : Option Timer) (r : Rule p c e q t) (way : Way) (l : leads (state_of p) e (facts_of p) ≡ Some way) →
       Counts p (turn q (state_of p) no_crc t (change_of (state_of p) e) way nothing_asked).port
   unfolding ended
   by_rule c e q t by_attach way l = from_zero p q (state_of p) no_crc t (change_of (state_of p) Stimulus.Attach) way nothing_asked refl (starting c Stimulus.Attach q t by_attach way l refl) (Ways.is_over way) refl
@@ -181,7 +178,7 @@ module _ (p : Port) (k : Between p) (on : pending_in p ≡ true) where
   unfolding hears
   hearing_counter id soft = rw on refl
 
-  by_packet : (f : Fields) (m : Meaning) (fit : Fit) (way : Way) → on_packet (state_of p) (heard_as m f.message_type fit) ≡ To way → (soft : Bool) → is_soft_reset m ≡ soft →
+  by_packet : (f : Fields) (m : Meaning) (fit : Option Asked) (way : Way) → on_packet (state_of p) (heard_as m f.message_type fit) ≡ Some way → (soft : Bool) → is_soft_reset m ≡ soft →
       Counts p (turn (hearing p f.message_id soft) (state_of p) (crc_for f) (running_in p) Change.Nothing way (asked_by fit)).port
   by_packet f m fit way l false e =
       counted p (hearing p f.message_id false) (state_of p) (crc_for f) (running_in p) Change.Nothing way (asked_by fit) (hearing_counter f.message_id false) (Ways.is_over way) refl

@@ -12,8 +12,6 @@ use Rattle.source.specs.declared.State.{State}
 use Rattle.source.specs.declared.Stimulus.{Stimulus}
 use Rattle.source.specs.declared.Heard.{Heard}
 use Rattle.source.specs.declared.Facts.{Facts}
-use Rattle.source.specs.declared.Lead.{Lead}
-use Rattle.source.specs.declared.Lead.TheVariants.{Refuse, To}
 use Rattle.source.specs.States.{same}
 use Rattle.stimuli.specs.Leads.{leads}
 use Rattle.hearing.specs.Packets.{on_packet}
@@ -33,18 +31,20 @@ use Rattle.portclaims.proofs.Tables as Tables
 use Rattle.portclaims.proofs.Led.{turn_state, led_state, at_way, is_same}
 use Rattle.portclaims.proofs.Shapes.{fit_in, Shape, refused, idle, again as sent_again, led, heard, shape}
 use Rattle.portclaims.proofs.OfferCount.{count_is_offers}
+use Rattle.std.specs.Prelude.{Some, None, Option}
+use Rattle.source.specs.declared.Way.{Way}
 
-abbrev disabled_test : State → Stimulus → Facts → Lead → Bool
-disabled_test s e f Refuse = true
-disabled_test s e f (To way) = implies (not (same s State.Disabled) && same (Ways.state_after (Tables.ruled_state e s) way) State.Disabled) f.fifty
+abbrev disabled_test : State → Stimulus → Facts → Option Way → Bool
+disabled_test s e f None = true
+disabled_test s e f (Some way) = implies (not (same s State.Disabled) && same (Ways.state_after (Tables.ruled_state e s) way) State.Disabled) f.fifty
 
 only_fifty : (s : State) (e : Stimulus) (f : Facts) → T (disabled_test s e f (leads s e f))
 unfolding leads
 only_fifty = everywhere (λ s e f. disabled_test s e f (leads s e f)) tt
 
-abbrev deaf_test : State → Lead → Bool
-deaf_test s Refuse = true
-deaf_test s (To way) = not (same (Ways.state_after s way) State.Disabled)
+abbrev deaf_test : State → Option Way → Bool
+deaf_test s None = true
+deaf_test s (Some way) = not (same (Ways.state_after s way) State.Disabled)
 
 no_packet_disables : (s : State) (h : Heard) → T (deaf_test s (on_packet s h))
 unfolding on_packet

@@ -17,6 +17,7 @@ use Rattle.port.specs.Packets.{good_crc_heard, by_meaning, message_of, packet_of
 use Rattle.port.specs.Calls.{Call, step}
 use Rattle.portclaims.specs.Messages.{Unheard, by_timer, by_another_good_crc}
 use Rattle.portclaims.specs.Leading.{ToSoft, ToHard}
+use Rattle.std.specs.Prelude.{Some}
 
 module _ (p : Port) where
   -- THE CLAIM: the same bytes go out again, and once they have gone out again twice the send has failed
@@ -34,7 +35,7 @@ module _ (p : Port) where
       (state_of (failed p).port ≡ State.Discovery)
       × ((failed p).port.channel.counter ≡ next_id p.channel.counter)
       × (pending_in (failed p).port ≡ false)
-      × ((failed p).actions.start ≡ SourceCapability)
+      × ((failed p).actions.start ≡ Some SourceCapability)
   unfolding failed happens leads change_of turn enter ended
   offer_fails_unconnected s c = rw (s, c) (refl, refl, refl, refl)
 

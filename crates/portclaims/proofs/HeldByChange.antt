@@ -5,20 +5,16 @@ use mathlib.Core.Bool.{Bool, true, not}
 use lib.Dec.{T}
 use Rattle.offers.specs.declared.Asked.{Asked}
 use Rattle.power.specs.declared.Change.{Change}
-use Rattle.power.specs.declared.Contract.{Contract}
 use Rattle.power.specs.Power.{nothing_asked, changed}
 use Rattle.source.specs.declared.State.{State}
 use Rattle.source.specs.declared.Stimulus.{Stimulus}
 use Rattle.source.specs.declared.Timer.{Timer}
 use Rattle.source.specs.declared.Facts.{Facts}
-use Rattle.source.specs.declared.Lead.{Lead}
-use Rattle.source.specs.declared.Lead.TheVariants.{Refuse, To}
 use Rattle.source.specs.declared.Way.{Way}
 use Rattle.source.specs.States.{same}
 use Rattle.stimuli.specs.Leads.{leads}
 use Rattle.source.specs.Changes.{change_of}
 use Rattle.source.proofs.Finite.{everywhere}
-use Rattle.port.specs.declared.GoodCrc.{GoodCrc}
 use Rattle.port.specs.declared.Port.{Port}
 use Rattle.port.specs.declared.Answer.{Answer}
 use Rattle.port.specs.Memory.{state_of, pending_in, facts_of, running_in, no_crc}
@@ -31,6 +27,7 @@ use Rattle.portclaims.proofs.Truth.{holds, true_not_false, second, not_true}
 use Rattle.portclaims.proofs.Ways as Ways
 use Rattle.portclaims.proofs.Led.{at_way}
 use Rattle.portclaims.proofs.Shapes.{Rule, by_attach, by_detach, by_hard_reset, by_acknowledgement, by_failure, by_sender_response, by_source_capability, by_ps_hard_reset, by_supply_ready, by_yes, by_no, by_offer_lem, fit_in, Shape, refused, idle, again, led, heard, shape}
+use Rattle.std.specs.Prelude.{Some, None, Option}
 
 with_change_lem : (c : Change) (q : Port) → (with_change c q).power.held ≡ held_after c q.power.held q.power.accepted.worth
 unfolding changed
@@ -39,15 +36,15 @@ with_change_lem Change.Accepted q = refl
 with_change_lem Change.InForce q = refl
 with_change_lem Change.GivenUp q = refl
 
-turn_holds : (q : Port) (s : State) (crc : GoodCrc) (t : Timer) (c : Change) (w : Way) (a : Asked) →
+turn_holds : (q : Port) (s : State) (crc : Option (List ℕ)) (t : Option Timer) (c : Change) (w : Way) (a : Asked) →
     (turn q s crc t c w a).port.power.held ≡ held_after c q.power.held q.power.accepted.worth
 unfolding turn
 turn_holds q s crc t c w a = (Ways.goes w a (with_change c q)).held ∙ with_change_lem c q
 
 -- only a port that is Detached is attached
-abbrev attach_test : State → Lead → Bool
-attach_test s Refuse = true
-attach_test s (To way) = same s State.Detached
+abbrev attach_test : State → Option Way → Bool
+attach_test s None = true
+attach_test s (Some way) = same s State.Detached
 
 only_detached : (s : State) (f : Facts) → T (attach_test s (leads s Stimulus.Attach f))
 unfolding leads
@@ -81,11 +78,11 @@ module _ (p : Port) (k : Between p) where
       none : not (is_made p.power.contract) ≡ true
       none = second (not (pending_in p)) (not (is_made p.power.contract)) (subst (λ (s : State). calm s (pending_in p) p.gone_out (is_made p.power.contract) ≡ true) here k.calmly)
 
-      by_contract : (c : Contract) → p.power.contract ≡ c → p.power.held ≡ 0
-      by_contract Contract.Nothing e = k.holds (rw here refl) ∙ ap worth_in e
-      by_contract (Contract.Made a) e = true_not_false (sym (ap is_made e) ∙ not_true (is_made p.power.contract) none)
+      by_contract : (c : Option Asked) → p.power.contract ≡ c → p.power.held ≡ 0
+      by_contract None e = k.holds (rw here refl) ∙ ap worth_in e
+      by_contract (Some a) e = true_not_false (sym (ap is_made e) ∙ not_true (is_made p.power.contract) none)
 
-  by_rule : (c : Call) (e : Stimulus) (q : Port) (t : Timer) → Rule p c e q t → (way : Way) → leads (state_of p) e (facts_of p) ≡ To way →
+  by_rule : (c : Call) (e : Stimulus) (q : Port) (t : Option Timer) → Rule p c e q t → (way : Way) → leads (state_of p) e (facts_of p) ≡ Some way →
       held_after (change_of (state_of p) e) q.power.held q.power.accepted.worth ≡ held_after (change_of (state_of p) e) p.power.held p.power.accepted.worth
   unfolding change_of
   by_rule c e q t by_attach way l = sym (nothing_held (so_same (at_way (attach_test (state_of p)) (leads (state_of p) Stimulus.Attach (facts_of p)) way l (only_detached (state_of p) (facts_of p)))))

@@ -5,7 +5,6 @@ use mathlib.Core.Path.{◌≡◌, refl}
 use mathlib.Core.Bool.{true}
 use mathlib.Core.List.{List}
 use Rattle.message.specs.declared.Fields.{Fields}
-use Rattle.reading.specs.declared.Reading.{Reading}
 use Rattle.reading.specs.Reading.{read_of, part_of}
 use Rattle.offers.specs.Objects.{position_of, is_mismatch, operating_of, maximum_of}
 use Rattle.offers.specs.Requests.{fits}
@@ -14,11 +13,12 @@ use Rattle.port.specs.declared.Port.{Port}
 use Rattle.port.specs.Packets.{first_object, packet_of}
 use Rattle.port.specs.Calls.{packet, step}
 use Rattle.portclaims.proofs.Shapes.{fit_in}
+use Rattle.reading.specs.Reading.{message_with}
 
 abbrev object : List ℕ → ℕ
 object s = first_object (part_of s)
 
-module _ (p : Port) (s t : List ℕ) (n : ℕ) (f : Fields) (read : read_of s ≡ Reading.Message n f) (read-too : read_of t ≡ Reading.Message n f) where
+module _ (p : Port) (s t : List ℕ) (n : ℕ) (f : Fields) (read : read_of s ≡ message_with n f) (read-too : read_of t ≡ message_with n f) where
   by_fit : fit_in p n s ≡ fit_in p n t → step p (packet s) ≡ step p (packet t)
   unfolding step packet_of
   by_fit alike = rw (read, read-too, alike) refl

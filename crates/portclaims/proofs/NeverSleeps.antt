@@ -8,16 +8,14 @@ use mathlib.Core.List.{List}
 use lib.Dec.{T, ltb, leb, eqb}
 use Rattle.message.specs.declared.Fields.{Fields}
 use Rattle.meaning.specs.declared.Meaning.{Meaning}
-use Rattle.reading.specs.declared.Reading.{Reading}
 use Rattle.reading.specs.Reading.{read_of}
 use Rattle.channel.specs.Channel.{pending_id, most_retries}
 use Rattle.channel.specs.Outcomes.{on_good_crc}
-use Rattle.power.specs.declared.Contract.{Contract}
 use Rattle.power.specs.declared.Standing.{Standing}
 use Rattle.power.specs.Power.{standing_of, changed}
 use Rattle.source.specs.declared.State.{State}
 use Rattle.source.specs.declared.Timer.{Timer}
-use Rattle.source.specs.declared.Timer.TheVariants.{NoTimer, SenderResponse, SourceCapability, PsHardReset}
+use Rattle.source.specs.declared.Timer.TheVariants.{SenderResponse, SourceCapability, PsHardReset}
 use Rattle.source.specs.States.{same, listens, running}
 use Rattle.stimuli.specs.Leads.{leads}
 use Rattle.hearing.specs.Packets.{on_packet}
@@ -36,16 +34,18 @@ use Rattle.portclaims.specs.Messages.{by_timer}
 use Rattle.portclaims.proofs.Shapes.{New}
 use Rattle.portclaims.proofs.Truth.{then, and, first}
 use Rattle.portclaims.proofs.FailedSends.{again_or_failed}
+use Rattle.reading.specs.Reading.{message_with}
+use Rattle.std.specs.Prelude.{Some, None, Option}
 
 -- ---- what a port waits for
 abbrev at_rest : State → Bool
 at_rest s = same s State.Ready || same s State.Waiting
 
-abbrev runs : Timer → Bool
-runs NoTimer = false
-runs SenderResponse = true
-runs SourceCapability = true
-runs PsHardReset = true
+abbrev runs : Option Timer → Bool
+runs None = false
+runs (Some SenderResponse) = true
+runs (Some SourceCapability) = true
+runs (Some PsHardReset) = true
 
 abbrev pub waits : State → Bool → Bool
 waits s pending = at_rest s || (pending || (runs (running s pending) || (same s State.Judge || (same s State.Moving || same s State.Default))))
@@ -115,7 +115,7 @@ module _ (p : Port) where
 
   -- its GoodCRC
   pub acknowledged_by_its_good_crc : (s : List ℕ) (n : ℕ) (f : Fields) →
-      listens (state_of p) ≡ true → read_of s ≡ Reading.Message n f → meaning_in n f ≡ Meaning.GoodCrc →
+      listens (state_of p) ≡ true → read_of s ≡ message_with n f → meaning_in n f ≡ Meaning.GoodCrc →
       pending_in p ≡ true → eqb (pending_id p.channel) f.message_id ≡ true →
       step p (packet s) ≡ acknowledged p
   unfolding step packet_of message_of by_meaning good_crc_heard on_good_crc by_outcome
@@ -126,25 +126,25 @@ module _ (p : Port) where
       (state_of (acknowledged p).port ≡ State.Offer)
       × ((acknowledged p).port.count ≡ 0)
       × ((acknowledged p).port.connected ≡ true)
-      × ((acknowledged p).actions.start ≡ SenderResponse)
+      × ((acknowledged p).actions.start ≡ Some SenderResponse)
   unfolding acknowledged happens leads change_of turn enter
   offer_heard s = rw s (refl, refl, refl, refl)
 
   pub soft_reset_heard : state_of p ≡ State.Soft →
       (state_of (acknowledged p).port ≡ State.Soft)
-      × ((acknowledged p).actions.start ≡ SenderResponse)
+      × ((acknowledged p).actions.start ≡ Some SenderResponse)
   unfolding acknowledged happens leads change_of turn enter
   soft_reset_heard s = rw s (refl, refl)
 
   pub accept_heard : state_of p ≡ State.Accepting →
       (state_of (acknowledged p).port ≡ State.Moving)
-      × ((acknowledged p).actions.supply ≡ Position p.power.accepted.position)
+      × ((acknowledged p).actions.supply ≡ Some (Position p.power.accepted.position))
   unfolding acknowledged happens leads change_of turn enter
   accept_heard s = rw s (refl, refl)
 
   pub ready_told : state_of p ≡ State.Telling → p.gone_out ≡ true →
       (state_of (acknowledged p).port ≡ State.Ready)
-      × ((acknowledged p).port.power.contract ≡ Contract.Made p.power.accepted)
+      × ((acknowledged p).port.power.contract ≡ Some p.power.accepted)
       × ((acknowledged p).port.power.held ≡ p.power.accepted.worth)
   unfolding acknowledged happens leads change_of turn enter changed
   ready_told s g = rw (s, g) (refl, refl, refl)

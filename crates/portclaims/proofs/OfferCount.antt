@@ -17,15 +17,12 @@ use Rattle.source.specs.declared.Stimulus.{Stimulus}
 use Rattle.source.specs.declared.Heard.{Heard}
 use Rattle.source.specs.declared.Timer.{Timer}
 use Rattle.source.specs.declared.Facts.{Facts}
-use Rattle.source.specs.declared.Lead.{Lead}
-use Rattle.source.specs.declared.Lead.TheVariants.{Refuse, To}
 use Rattle.source.specs.declared.Way.{Way}
 use Rattle.source.specs.States.{same}
 use Rattle.stimuli.specs.Leads.{leads}
 use Rattle.hearing.specs.Packets.{on_packet}
 use Rattle.source.specs.Changes.{change_of}
 use Rattle.source.proofs.Finite.{everywhere, at_packets}
-use Rattle.port.specs.declared.GoodCrc.{GoodCrc}
 use Rattle.port.specs.declared.Port.{Port}
 use Rattle.port.specs.declared.Answer.{Answer}
 use Rattle.port.specs.Memory.{state_of, pending_in, facts_of, running_in, no_crc, most_offers, detached_port}
@@ -42,6 +39,7 @@ use Rattle.portclaims.proofs.Tables as Tables
 use Rattle.portclaims.proofs.Led.{ruled, turn_state, turn_pending, led_state, at_way}
 use Rattle.portclaims.proofs.Between.{step_keeps, at_first}
 use Rattle.portclaims.proofs.Shapes.{Rule, fit_in, Shape, refused, idle, again as sent_again, led, heard, shape}
+use Rattle.std.specs.Prelude.{Some, None, Option}
 
 -- ---- what a way does to the count, and to what goes out
 abbrev counted : Bool → Bool → ℕ → ℕ
@@ -127,9 +125,9 @@ are_alike true b t = sym (holds b t)
 are_alike false true t = absurd t
 are_alike false false t = refl
 
-abbrev clear_test : State → Stimulus → Facts → Lead → Bool
-clear_test s e f Refuse = true
-clear_test s e f (To way) =
+abbrev clear_test : State → Stimulus → Facts → Option Way → Bool
+clear_test s e f None = true
+clear_test s e f (Some way) =
     implies (pends s f.pending && Tables.possible e f.pending)
     (alike (seen_cleared s f.pending (Ways.state_after (Tables.ruled_state e s) way) (Ways.pending_after (Tables.ruled_pending e f.pending) way) (is_given_up (change_of s e)))
     (is_offered way || (is_given_up (change_of s e) || clears e)))
@@ -138,9 +136,9 @@ clear_table : (s : State) (e : Stimulus) (f : Facts) → T (clear_test s e f (le
 unfolding leads change_of
 clear_table = everywhere (λ s e f. clear_test s e f (leads s e f)) tt
 
-abbrev packet_test : State → Bool → Lead → Bool
-packet_test s pending Refuse = true
-packet_test s pending (To way) =
+abbrev packet_test : State → Bool → Option Way → Bool
+packet_test s pending None = true
+packet_test s pending (Some way) =
     implies (pends s pending) (not (is_offered way) && not (seen_cleared s pending (Ways.state_after s way) (Ways.pending_after false way) false))
 
 packet_table : (s : State) (h : Heard) (pending : Bool) → T (packet_test s pending (on_packet s h))
@@ -155,7 +153,7 @@ change_count Change.Accepted q = refl
 change_count Change.InForce q = refl
 change_count Change.GivenUp q = refl
 
-module _ (q : Port) (s : State) (crc : GoodCrc) (t : Timer) (c : Change) (w : Way) (a : Asked) where
+module _ (q : Port) (s : State) (crc : Option (List ℕ)) (t : Option Timer) (c : Change) (w : Way) (a : Asked) where
   turn_count : (turn q s crc t c w a).port.count ≡ counted (is_offer w) (is_offered w) (cond (is_given_up c) 0 q.count)
   unfolding turn
   turn_count = (Ways.goes w a (with_change c q)).count ∙ rw (change_count c q)
@@ -182,7 +180,7 @@ module _ (p : Port) (k : Between p) (n : ℕ) (h : p.count ≡ min most_offers n
   pends_now : pends (state_of p) (pending_in p) ≡ true
   pends_now = first (pends (state_of p) (pending_in p)) _ k.calmly
 
-  module _ (c : Call) (e : Stimulus) (q : Port) (t : Timer) (rule : Rule p c e q t) (way : Way) (l : leads (state_of p) e (facts_of p) ≡ To way) where
+  module _ (c : Call) (e : Stimulus) (q : Port) (t : Option Timer) (rule : Rule p c e q t) (way : Way) (l : leads (state_of p) e (facts_of p) ≡ Some way) where
     abbrev change : Change
     change = change_of (state_of p) e
 
@@ -205,7 +203,7 @@ module _ (p : Port) (k : Between p) (n : ℕ) (h : p.count ≡ min most_offers n
         ∙ rw (ruled p c e q t rule).count (tally (is_offer way) (is_offered way) (is_given_up change) (clears e) p.count n (not_both way) h)
         ∙ as_seen n (count_cleared p end) _ (offer_made end) _ end_cleared (turn_made q (state_of p) no_crc t change way nothing_asked)
 
-  module _ (f : Heard) (id : ℕ) (soft : Bool) (crc : GoodCrc) (a : Asked) (way : Way) (l : on_packet (state_of p) f ≡ To way) where
+  module _ (f : Heard) (id : ℕ) (soft : Bool) (crc : Option (List ℕ)) (a : Asked) (way : Way) (l : on_packet (state_of p) f ≡ Some way) where
     abbrev heard_end : Answer
     heard_end = turn (hearing p id soft) (state_of p) crc (running_in p) Change.Nothing way a
 

@@ -11,7 +11,6 @@ use Rattle.offers.specs.declared.Offer.{Offer}
 use Rattle.offers.specs.Offers.{good_offer}
 use Rattle.outgoing.specs.Packets.{no_packet}
 use Rattle.channel.specs.Channel.{sends}
-use Rattle.power.specs.declared.Contract.{Contract}
 use Rattle.power.specs.declared.Standing.{Standing}
 use Rattle.power.specs.Power.{standing_of, changed}
 use Rattle.source.specs.declared.State.{State}
@@ -29,6 +28,7 @@ use Rattle.port.specs.Calls.{event, packet, new_offer, step}
 use Rattle.portclaims.specs.Leading.{ToOffer}
 use Rattle.portclaims.proofs.Shapes.{New}
 use Rattle.portclaims.proofs.Truth.{true_not_false}
+use Rattle.std.specs.Prelude.{Some}
 
 neither : (a b : Bool) → (a || b) ≡ false → (a ≡ false) × (b ≡ false)
 neither true b e = true_not_false e
@@ -57,7 +57,7 @@ module _ (p : Port) (waits : p.gone_out ≡ false) where
   -- with the new contract in force all the same
   pub ready_told_and_offered : state_of p ≡ State.Telling →
       ToOffer p.newest (acknowledged p)
-      × ((acknowledged p).port.power.contract ≡ Contract.Made p.power.accepted)
+      × ((acknowledged p).port.power.contract ≡ Some p.power.accepted)
       × ((acknowledged p).port.power.held ≡ p.power.accepted.worth)
   unfolding acknowledged happens leads change_of turn enter changed sends
   ready_told_and_offered s = rw (s, waits) (record { state = refl; sent = refl; newest = refl; last = refl; gone_out = refl }, refl, refl)

@@ -1,7 +1,6 @@
 -- A refusal returns its number only: the port is the very same, nothing is done, and nothing happens to held power. Assumes nothing.
 use mathlib.Core.Path.{◌≡◌, refl, ap}
 use Rattle.ground.specs.declared.Refusal.{Refusal}
-use Rattle.ground.specs.declared.Verdict.TheVariants.{Fine, Refused}
 use Rattle.power.specs.declared.Change.{Change}
 use Rattle.port.specs.declared.Port.{Port}
 use Rattle.port.specs.declared.Answer.{Answer}
@@ -9,23 +8,24 @@ use Rattle.port.specs.Memory.{refused_by, no_actions}
 use Rattle.port.specs.Steps.{turn, resent, nothing_done}
 use Rattle.port.specs.Calls.{Call, step}
 use Rattle.portclaims.proofs.Shapes.{Shape, refused, idle, again, led, heard, shape}
+use Rattle.std.specs.Prelude.{Ok, Err}
 
 -- a refusal is no other answer
-other : (a : Answer) (r : Refusal) (p : Port) → a.verdict ≡ Fine → a.verdict ≡ Refused r → a ≡ refused_by r p
+other : (a : Answer) (r : Refusal) (p : Port) → a.verdict ≡ Ok tt → a.verdict ≡ Err r → a ≡ refused_by r p
 other a r p fine no' = cc
 
-by_shape : (p : Port) (c : Call) (a : Answer) (r : Refusal) → Shape p c a → a.verdict ≡ Refused r → a ≡ refused_by r p
+by_shape : (p : Port) (c : Call) (a : Answer) (r : Refusal) → Shape p c a → a.verdict ≡ Err r → a ≡ refused_by r p
 unfolding turn resent nothing_done
 by_shape p c a r (refused d s) e = ap (λ (t : Refusal). refused_by t p) (the_refusal s r e)
   where
-    the_refusal : (s t : Refusal) → Refused s ≡ Refused t → s ≡ t
+    the_refusal : (s t : Refusal) → Err s ≡ Err t → s ≡ t
     the_refusal s t e = cc
 by_shape p c a r (idle d u crc) e = other (nothing_done crc p) r p refl e
 by_shape p c a r (again d u pending more) e = other (resent p) r p refl e
 by_shape p c a r (led d s after runs way rule l) e = other _ r p refl e
 by_shape p c a r (heard s n f m way new l) e = other _ r p refl e
 
-module _ (p : Port) (c : Call) (r : Refusal) (e : (step p c).verdict ≡ Refused r) where
+module _ (p : Port) (c : Call) (r : Refusal) (e : (step p c).verdict ≡ Err r) where
   whole : step p c ≡ refused_by r p
   whole = by_shape p c (step p c) r (shape p c) e
 

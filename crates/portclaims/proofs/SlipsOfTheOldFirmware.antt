@@ -8,12 +8,10 @@ use lib.Dec.{T, ltb, leb}
 use Rattle.message.specs.declared.Fields.{Fields}
 use Rattle.message.specs.Types as Types
 use Rattle.meaning.specs.declared.Meaning.{Meaning}
-use Rattle.reading.specs.declared.Reading.{Reading}
 use Rattle.reading.specs.Reading.{read_of, part_of}
 use Rattle.offers.specs.declared.Offer.{Offer}
 use Rattle.offers.specs.Requests.{asked}
 use Rattle.outgoing.specs.Packets.{no_packet, control_of, data_of}
-use Rattle.channel.specs.declared.Stored.{Stored}
 use Rattle.channel.specs.Channel.{is_pending, is_repeat, next_id, most_retries, fresh, ended, heard as hears, sends}
 use Rattle.power.specs.declared.Change.{Change}
 use Rattle.power.specs.Power.{nothing_asked}
@@ -21,8 +19,6 @@ use Rattle.source.specs.declared.State.{State}
 use Rattle.source.specs.declared.Stimulus.{Stimulus}
 use Rattle.source.specs.declared.Heard.{Heard}
 use Rattle.source.specs.declared.Facts.{Facts}
-use Rattle.source.specs.declared.Lead.{Lead}
-use Rattle.source.specs.declared.Lead.TheVariants.{Refuse, To}
 use Rattle.source.specs.declared.Way.{Way}
 use Rattle.source.specs.States.{same, listens}
 use Rattle.stimuli.specs.Leads.{leads}
@@ -51,6 +47,8 @@ use Rattle.portclaims.proofs.HeldByChange.{held_by_change}
 use Rattle.portclaims.proofs.AcceptExactly.{FittingRequest, comes_to_ask, AskedBy, by_packet, asks_only_so}
 use Rattle.portclaims.proofs.FailedSends.{again_or_failed, offer_fails_unconnected}
 use Rattle.portclaims.proofs.Shapes.{Shape, refused, idle, again, led, heard, shape}
+use Rattle.reading.specs.Reading.{message_with}
+use Rattle.std.specs.Prelude.{Some, None, Option}
 
 -- ---- "Old power let go when the new Accept goes out, though the output has not moved."
 -- power is let go where the new contract is in force, or all is given up, and nowhere else
@@ -110,7 +108,7 @@ judged_by_no_other_offer p o s elsewhere e = fits_as_before p o s (the_packet (r
 abbrev pub answers_soft_reset : State → Bool
 answers_soft_reset s = listens s && not (is_stricter s)
 
-to_answering : (s : State) → answers_soft_reset s ≡ true → on_packet s Heard.SoftReset ≡ To Way.Answering
+to_answering : (s : State) → answers_soft_reset s ≡ true → on_packet s Heard.SoftReset ≡ Some Way.Answering
 unfolding on_packet
 to_answering State.Detached e = true_not_false (sym e)
 to_answering State.Offer e = refl
@@ -133,7 +131,7 @@ never_a_repeat : (b : Bool) → (b && false) ≡ false
 never_a_repeat true = refl
 never_a_repeat false = refl
 
-to_hard : (s : State) → is_stricter s ≡ true → (listens s ≡ true) × (on_packet s Heard.SoftReset ≡ To Way.Hard)
+to_hard : (s : State) → is_stricter s ≡ true → (listens s ≡ true) × (on_packet s Heard.SoftReset ≡ Some Way.Hard)
 unfolding on_packet
 to_hard State.Accepting e = (refl, refl)
 to_hard State.Moving e = (refl, refl)
@@ -153,17 +151,17 @@ to_hard State.Hard e = true_not_false (sym e)
 to_hard State.Default e = true_not_false (sym e)
 
 -- THE CLAIM: whatever MessageID is stored, a Soft_Reset is answered with Accept from counter 0, and its MessageID stored
-pub soft_reset_is_no_repeat : (p : Port) (s : List ℕ) (n : ℕ) (f : Fields) → read_of s ≡ Reading.Message n f → meaning_in n f ≡ Meaning.SoftReset →
+pub soft_reset_is_no_repeat : (p : Port) (s : List ℕ) (n : ℕ) (f : Fields) → read_of s ≡ message_with n f → meaning_in n f ≡ Meaning.SoftReset →
     answers_soft_reset (state_of p) ≡ true →
     (state_of (step p (packet s)).port ≡ State.Answering)
     × ((step p (packet s)).actions.transmit ≡ control_of Types.Accept 0)
-    × ((step p (packet s)).port.channel.stored ≡ Stored.Id f.message_id)
+    × ((step p (packet s)).port.channel.stored ≡ Some f.message_id)
 unfolding step packet_of message_of by_meaning other_packet new_packet heard_as turn enter hears sends
 soft_reset_is_no_repeat p s n f e m a =
     rw (e, first (listens (state_of p)) (not (is_stricter (state_of p))) a, m, never_a_repeat (is_repeat p.channel f.message_id), to_answering (state_of p) a) (refl, refl, refl)
 
 -- THE CLAIM: and from Accepting, Moving and Telling, whatever MessageID is stored, it leads to Hard, with GoodCRC and a signal of our own
-pub soft_reset_while_power_moves : (p : Port) (s : List ℕ) (n : ℕ) (f : Fields) → read_of s ≡ Reading.Message n f → meaning_in n f ≡ Meaning.SoftReset →
+pub soft_reset_while_power_moves : (p : Port) (s : List ℕ) (n : ℕ) (f : Fields) → read_of s ≡ message_with n f → meaning_in n f ≡ Meaning.SoftReset →
     is_stricter (state_of p) ≡ true →
     ToHard (step p (packet s)) × ((step p (packet s)).actions.good_crc ≡ crc_for f)
 unfolding step packet_of message_of by_meaning other_packet new_packet heard_as turn enter
@@ -180,9 +178,9 @@ no_retry_survives p k c e = (step_keeps p k c).reset (ap is_reset e)
 abbrev is_silent : Way → Bool
 is_silent w = not (is_sending w)
 
-abbrev hard_test : State → Lead → Bool
-hard_test s Refuse = true
-hard_test s (To way) = implies (same s State.Hard) (is_silent way)
+abbrev hard_test : State → Option Way → Bool
+hard_test s None = true
+hard_test s (Some way) = implies (same s State.Hard) (is_silent way)
 
 hard_is_silent : (s : State) (e : Stimulus) (f : Facts) → T (hard_test s (leads s e f))
 unfolding leads

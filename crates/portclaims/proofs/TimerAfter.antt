@@ -1,29 +1,29 @@
 -- The timer that runs after a call, by what was done in it. Assumes nothing.
 use mathlib.Core.Bool.{Bool, true, false, cond, ◌&&◌}
-use Rattle.ground.specs.declared.Verdict.{Verdict}
-use Rattle.ground.specs.declared.Verdict.TheVariants.{Fine, Refused}
 use Rattle.source.specs.declared.Timer.{Timer}
-use Rattle.source.specs.declared.Timer.TheVariants.{NoTimer, SenderResponse, SourceCapability, PsHardReset}
+use Rattle.source.specs.declared.Timer.TheVariants.{SenderResponse, SourceCapability, PsHardReset}
 use Rattle.port.specs.declared.Answer.{Answer}
 use Rattle.port.specs.Calls.{Call}
 use Rattle.portclaims.proofs.Shapes.{is_expiry}
+use Rattle.ground.specs.Refusals.{Verdict}
+use Rattle.std.specs.Prelude.{Some, None, Ok, Err, Option}
 
 -- one that expired or was stopped no longer runs, one that was started does
-abbrev pub begun : Timer → Timer → Timer
-begun NoTimer t = t
-begun SenderResponse t = SenderResponse
-begun SourceCapability t = SourceCapability
-begun PsHardReset t = PsHardReset
+abbrev pub begun : Option Timer → Option Timer → Option Timer
+begun None t = t
+begun (Some SenderResponse) t = Some SenderResponse
+begun (Some SourceCapability) t = Some SourceCapability
+begun (Some PsHardReset) t = Some PsHardReset
 
-abbrev pub halted : Timer → Timer → Timer
-halted NoTimer t = t
-halted SenderResponse t = NoTimer
-halted SourceCapability t = NoTimer
-halted PsHardReset t = NoTimer
+abbrev pub halted : Option Timer → Option Timer → Option Timer
+halted None t = t
+halted (Some SenderResponse) t = None
+halted (Some SourceCapability) t = None
+halted (Some PsHardReset) t = None
 
 abbrev pub is_fine : Verdict → Bool
-is_fine Fine = true
-is_fine (Refused r) = false
+is_fine (Ok _) = true
+is_fine (Err r) = false
 
-abbrev pub timer_after : Timer → Call → Answer → Timer
-timer_after t c a = begun a.actions.start (halted a.actions.stop (cond (is_expiry c && is_fine a.verdict) NoTimer t))
+abbrev pub timer_after : Option Timer → Call → Answer → Option Timer
+timer_after t c a = begun a.actions.start (halted a.actions.stop (cond (is_expiry c && is_fine a.verdict) None t))

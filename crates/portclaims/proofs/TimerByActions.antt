@@ -4,7 +4,6 @@ use mathlib.Core.Path.{◌≡◌, refl, sym}
 use mathlib.Core.Bool.{Bool, true, false, cond, ◌&&◌}
 use mathlib.Core.List.{List}
 use lib.Dec.{T, eqb}
-use Rattle.ground.specs.declared.Verdict.TheVariants.{Fine}
 use Rattle.offers.specs.declared.Asked.{Asked}
 use Rattle.channel.specs.Channel.{again as once-again, heard as hears}
 use Rattle.power.specs.declared.Change.{Change}
@@ -13,17 +12,14 @@ use Rattle.source.specs.declared.State.{State}
 use Rattle.source.specs.declared.Stimulus.{Stimulus}
 use Rattle.source.specs.declared.Heard.{Heard}
 use Rattle.source.specs.declared.Timer.{Timer}
-use Rattle.source.specs.declared.Timer.TheVariants.{NoTimer, SenderResponse, SourceCapability, PsHardReset}
+use Rattle.source.specs.declared.Timer.TheVariants.{SenderResponse, SourceCapability, PsHardReset}
 use Rattle.source.specs.declared.Facts.{Facts}
-use Rattle.source.specs.declared.Lead.{Lead}
-use Rattle.source.specs.declared.Lead.TheVariants.{Refuse, To}
 use Rattle.source.specs.declared.Way.{Way}
 use Rattle.source.specs.States.{same, running, stopped}
 use Rattle.stimuli.specs.Leads.{leads}
 use Rattle.hearing.specs.Packets.{on_packet}
 use Rattle.source.specs.Changes.{change_of}
 use Rattle.source.proofs.Finite.{everywhere, at_packets}
-use Rattle.port.specs.declared.GoodCrc.{GoodCrc}
 use Rattle.port.specs.declared.Port.{Port}
 use Rattle.port.specs.declared.Answer.{Answer}
 use Rattle.port.specs.Memory.{state_of, pending_in, facts_of, running_in, no_crc}
@@ -39,40 +35,41 @@ use Rattle.portclaims.proofs.Led.{ruled, turn_state, turn_pending, led_state, at
 use Rattle.portclaims.proofs.Shapes.{Rule, fit_in, is_expiry, Shape, refused, idle, again as sent_again, led, heard, shape}
 use Rattle.portclaims.proofs.TimerAfter.{begun, halted}
 pub use Rattle.portclaims.proofs.TimerAfter.{timer_after}
+use Rattle.std.specs.Prelude.{Some, None, Ok, Option}
 
-abbrev code_of : Timer → ℕ
-code_of NoTimer = 0
-code_of SenderResponse = 1
-code_of SourceCapability = 2
-code_of PsHardReset = 3
+abbrev code_of : Option Timer → ℕ
+code_of None = 0
+code_of (Some SenderResponse) = 1
+code_of (Some SourceCapability) = 2
+code_of (Some PsHardReset) = 3
 
-abbrev alike : Timer → Timer → Bool
+abbrev alike : Option Timer → Option Timer → Bool
 alike t u = eqb (code_of t) (code_of u)
 
-are_alike : (t u : Timer) → alike t u ≡ true → t ≡ u
-are_alike NoTimer NoTimer e = refl
-are_alike NoTimer SenderResponse e = true_not_false (sym e)
-are_alike NoTimer SourceCapability e = true_not_false (sym e)
-are_alike NoTimer PsHardReset e = true_not_false (sym e)
-are_alike SenderResponse NoTimer e = true_not_false (sym e)
-are_alike SenderResponse SenderResponse e = refl
-are_alike SenderResponse SourceCapability e = true_not_false (sym e)
-are_alike SenderResponse PsHardReset e = true_not_false (sym e)
-are_alike SourceCapability NoTimer e = true_not_false (sym e)
-are_alike SourceCapability SenderResponse e = true_not_false (sym e)
-are_alike SourceCapability SourceCapability e = refl
-are_alike SourceCapability PsHardReset e = true_not_false (sym e)
-are_alike PsHardReset NoTimer e = true_not_false (sym e)
-are_alike PsHardReset SenderResponse e = true_not_false (sym e)
-are_alike PsHardReset SourceCapability e = true_not_false (sym e)
-are_alike PsHardReset PsHardReset e = refl
+are_alike : (t u : Option Timer) → alike t u ≡ true → t ≡ u
+are_alike None None e = refl
+are_alike None (Some SenderResponse) e = true_not_false (sym e)
+are_alike None (Some SourceCapability) e = true_not_false (sym e)
+are_alike None (Some PsHardReset) e = true_not_false (sym e)
+are_alike (Some SenderResponse) None e = true_not_false (sym e)
+are_alike (Some SenderResponse) (Some SenderResponse) e = refl
+are_alike (Some SenderResponse) (Some SourceCapability) e = true_not_false (sym e)
+are_alike (Some SenderResponse) (Some PsHardReset) e = true_not_false (sym e)
+are_alike (Some SourceCapability) None e = true_not_false (sym e)
+are_alike (Some SourceCapability) (Some SenderResponse) e = true_not_false (sym e)
+are_alike (Some SourceCapability) (Some SourceCapability) e = refl
+are_alike (Some SourceCapability) (Some PsHardReset) e = true_not_false (sym e)
+are_alike (Some PsHardReset) None e = true_not_false (sym e)
+are_alike (Some PsHardReset) (Some SenderResponse) e = true_not_false (sym e)
+are_alike (Some PsHardReset) (Some SourceCapability) e = true_not_false (sym e)
+are_alike (Some PsHardReset) (Some PsHardReset) e = refl
 
-abbrev before : Bool → Timer → Timer
-before expired t = cond expired NoTimer t
+abbrev before : Bool → Option Timer → Option Timer
+before expired t = cond expired None t
 
-abbrev timer_test : State → Stimulus → Facts → Lead → Bool
-timer_test s e f Refuse = true
-timer_test s e f (To way) =
+abbrev timer_test : State → Stimulus → Facts → Option Way → Bool
+timer_test s e f None = true
+timer_test s e f (Some way) =
     implies (pends s f.pending && Tables.possible e f.pending)
     (alike (running (Ways.state_after (Tables.ruled_state e s) way) (Ways.pending_after (Tables.ruled_pending e f.pending) way))
     (begun (Ways.start_of way)
@@ -82,9 +79,9 @@ timer_table : (s : State) (e : Stimulus) (f : Facts) → T (timer_test s e f (le
 unfolding leads
 timer_table = everywhere (λ s e f. timer_test s e f (leads s e f)) tt
 
-abbrev packet_test : State → Bool → Lead → Bool
-packet_test s pending Refuse = true
-packet_test s pending (To way) =
+abbrev packet_test : State → Bool → Option Way → Bool
+packet_test s pending None = true
+packet_test s pending (Some way) =
     implies (pends s pending)
     (alike (running (Ways.state_after s way) (Ways.pending_after false way)) (begun (Ways.start_of way) (halted (stopped s (Ways.state_after s way) (running s pending)) (running s pending))))
 
@@ -93,15 +90,15 @@ unfolding on_packet
 packet_table s h true = at_packets (λ s h. packet_test s true (on_packet s h)) tt s h
 packet_table s h false = at_packets (λ s h. packet_test s false (on_packet s h)) tt s h
 
-turn_start : (q : Port) (s : State) (crc : GoodCrc) (t : Timer) (c : Change) (w : Way) (a : Asked) → (turn q s crc t c w a).actions.start ≡ Ways.start_of w
+turn_start : (q : Port) (s : State) (crc : Option (List ℕ)) (t : Option Timer) (c : Change) (w : Way) (a : Asked) → (turn q s crc t c w a).actions.start ≡ Ways.start_of w
 unfolding turn
 turn_start q s crc t c w a = (Ways.goes w a (with_change c q)).start
 
-turn_stop : (q : Port) (s : State) (crc : GoodCrc) (t : Timer) (c : Change) (w : Way) (a : Asked) → (turn q s crc t c w a).actions.stop ≡ stopped s (state_of (turn q s crc t c w a).port) t
+turn_stop : (q : Port) (s : State) (crc : Option (List ℕ)) (t : Option Timer) (c : Change) (w : Way) (a : Asked) → (turn q s crc t c w a).actions.stop ≡ stopped s (state_of (turn q s crc t c w a).port) t
 unfolding turn
 turn_stop q s crc t c w a = refl
 
-turn_fine : (q : Port) (s : State) (crc : GoodCrc) (t : Timer) (c : Change) (w : Way) (a : Asked) → (turn q s crc t c w a).verdict ≡ Fine
+turn_fine : (q : Port) (s : State) (crc : Option (List ℕ)) (t : Option Timer) (c : Change) (w : Way) (a : Asked) → (turn q s crc t c w a).verdict ≡ Ok tt
 unfolding turn
 turn_fine q s crc t c w a = refl
 
@@ -113,7 +110,7 @@ and_false : (b : Bool) → (b && false) ≡ false
 and_false true = refl
 and_false false = refl
 
-either_way : (b : Bool) → cond b NoTimer NoTimer ≡ NoTimer
+either_way : (b : Bool) → cond b None None ≡ None
 either_way true = refl
 either_way false = refl
 
@@ -121,7 +118,7 @@ module _ (p : Port) (k : Between p) where
   pends_now : pends (state_of p) (pending_in p) ≡ true
   pends_now = first (pends (state_of p) (pending_in p)) _ k.calmly
 
-  by_rule : (c : Call) (e : Stimulus) (q : Port) (t : Timer) → Rule p c e q t → (way : Way) → leads (state_of p) e (facts_of p) ≡ To way →
+  by_rule : (c : Call) (e : Stimulus) (q : Port) (t : Option Timer) → Rule p c e q t → (way : Way) → leads (state_of p) e (facts_of p) ≡ Some way →
       running_in (turn q (state_of p) no_crc t (change_of (state_of p) e) way nothing_asked).port ≡ timer_after (running_in p) c (turn q (state_of p) no_crc t (change_of (state_of p) e) way nothing_asked)
   by_rule c e q t rule way l =
       let r = ruled p c e q t rule in
@@ -137,7 +134,7 @@ module _ (p : Port) (k : Between p) where
   unfolding hears
   none_once_heard id soft = refl
 
-  by_packet : (s : List ℕ) (h : Heard) (id : ℕ) (soft : Bool) (crc : GoodCrc) (a : Asked) (way : Way) → on_packet (state_of p) h ≡ To way →
+  by_packet : (s : List ℕ) (h : Heard) (id : ℕ) (soft : Bool) (crc : Option (List ℕ)) (a : Asked) (way : Way) → on_packet (state_of p) h ≡ Some way →
       running_in (turn (hearing p id soft) (state_of p) crc (running_in p) Change.Nothing way a).port ≡ timer_after (running_in p) (packet s) (turn (hearing p id soft) (state_of p) crc (running_in p) Change.Nothing way a)
   by_packet s h id soft crc a way l =
       let q = hearing p id soft in

@@ -22,7 +22,6 @@ use Rattle.source.specs.declared.Stimulus.{Stimulus}
 use Rattle.source.specs.declared.Timer.{Timer}
 use Rattle.source.specs.declared.Way.{Way}
 use Rattle.source.specs.Changes.{change_of}
-use Rattle.port.specs.declared.GoodCrc.{GoodCrc}
 use Rattle.port.specs.declared.Port.{Port}
 use Rattle.port.specs.declared.Answer.{Answer}
 use Rattle.port.specs.declared.Entered.{Entered}
@@ -35,6 +34,7 @@ use Rattle.portclaims.specs.Messages.{control, offer, First, Transmits, nothing,
 use Rattle.portclaims.proofs.Truth.{true_not_false, below}
 use Rattle.portclaims.proofs.Led.{change_channel}
 use Rattle.portclaims.proofs.Shapes.{Rule, by_attach, by_detach, by_hard_reset, by_acknowledgement, by_failure, by_sender_response, by_source_capability, by_ps_hard_reset, by_supply_ready, by_yes, by_no, by_offer_lem, Shape, refused, idle, again as sent_again, led, heard, shape}
+use Rattle.std.specs.Prelude.{Option}
 
 -- ---- what a way does to the pending message: it is kept, or one is made, or none is left
 pub data Passed (p : Port) (e : Entered) : Type 0 where
@@ -66,7 +66,7 @@ passed Way.Default a p = keeps refl refl
 passed Way.Detached a p = keeps refl refl
 
 -- ---- a step
-module _ (q : Port) (s : State) (crc : GoodCrc) (t : Timer) (c : Change) (w : Way) (a : Asked) where
+module _ (q : Port) (s : State) (crc : Option (List ℕ)) (t : Option Timer) (c : Change) (w : Way) (a : Asked) where
   turn_transmits : (p : Port) → Passed (with_change c q) (enter w a (with_change c q)) → Transmits p (turn q s crc t c w a)
   unfolding turn
   turn_transmits p (keeps n h) = nothing n
@@ -84,7 +84,7 @@ module _ (q : Port) (s : State) (crc : GoodCrc) (t : Timer) (c : Change) (w : Wa
   turn_fate p g (clears n h) = gone n (ap is_pending h)
 
 module _ (p : Port) where
-  after_rule : (c : Call) (e : Stimulus) (q : Port) (t : Timer) → Rule p c e q t → (q.channel ≡ p.channel) ⊎ (pending_in q ≡ false)
+  after_rule : (c : Call) (e : Stimulus) (q : Port) (t : Option Timer) → Rule p c e q t → (q.channel ≡ p.channel) ⊎ (pending_in q ≡ false)
   unfolding ended
   after_rule c e q t by_attach = inr refl
   after_rule c e q t by_detach = inr refl

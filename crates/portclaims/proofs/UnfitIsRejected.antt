@@ -13,7 +13,6 @@ use Rattle.channel.specs.Channel.{sends}
 use Rattle.power.specs.declared.Change.{Change}
 use Rattle.source.specs.declared.State.{State}
 use Rattle.source.specs.declared.Heard.{Heard}
-use Rattle.source.specs.declared.Lead.TheVariants.{To}
 use Rattle.source.specs.declared.Way.{Way}
 use Rattle.hearing.specs.Packets.{on_packet}
 use Rattle.port.specs.declared.Port.{Port}
@@ -25,8 +24,9 @@ use Rattle.port.specs.Calls.{packet, step}
 use Rattle.portclaims.specs.Awaited.{awaits_request}
 use Rattle.portclaims.proofs.Truth.{true_not_false}
 use Rattle.portclaims.proofs.Shapes.{New}
+use Rattle.std.specs.Prelude.{Some}
 
-to_refusing : (s : State) → awaits_request s ≡ true → on_packet s Heard.OtherRequest ≡ To Way.Refusing
+to_refusing : (s : State) → awaits_request s ≡ true → on_packet s Heard.OtherRequest ≡ Some Way.Refusing
 unfolding on_packet
 to_refusing State.Offer e = refl
 to_refusing State.Discovery e = refl

@@ -17,10 +17,11 @@ use Rattle.port.specs.Memory.{state_of, pending_in}
 use Rattle.port.specs.Entering.{enter, one_offer}
 use mathlib.Core.List.{[], ◌∷◌}
 use Rattle.source.specs.declared.Timer.{Timer}
-use Rattle.source.specs.declared.Timer.TheVariants.{NoTimer, SenderResponse, SourceCapability, PsHardReset}
+use Rattle.source.specs.declared.Timer.TheVariants.{SenderResponse, SourceCapability, PsHardReset}
 use Rattle.port.specs.declared.Entered.{Entered}
 use Rattle.portclaims.proofs.Truth.{true_not_false}
 use Rattle.portclaims.proofs.Groups.{one_way_of, is_sending, is_hard, is_offer, is_offered}
+use Rattle.std.specs.Prelude.{Some, None, Option}
 
 abbrev pub state_after : State → Way → State
 state_after s Way.Stay = s
@@ -57,8 +58,8 @@ made_after b Change.InForce = true
 made_after b Change.GivenUp = false
 
 -- the timer that a way starts
-abbrev pub start_of : Way → Timer
-start_of w = cond (one_way_of (Way.Offered ∷ Way.Softened ∷ []) w) SenderResponse (cond (one_way_of (Way.Discovery ∷ []) w) SourceCapability (cond (is_hard w) PsHardReset NoTimer))
+abbrev pub start_of : Way → Option Timer
+start_of w = cond (one_way_of (Way.Offered ∷ Way.Softened ∷ []) w) (Some SenderResponse) (cond (one_way_of (Way.Discovery ∷ []) w) (Some SourceCapability) (cond (is_hard w) (Some PsHardReset) None))
 
 -- the count after it: one offer more, or none since the last was acknowledged
 abbrev pub count_after : ℕ → Way → ℕ

@@ -6,7 +6,6 @@ use mathlib.Core.Bool.{true, false}
 use mathlib.Core.List.{List, [], ◌∷◌, ◌++◌}
 use lib.Dec.{ltb, leb, eqb}
 use Rattle.ground.specs.declared.Refusal.TheVariants.{NotAwaited}
-use Rattle.ground.specs.declared.Verdict.TheVariants.{Refused}
 use Rattle.ground.specs.Refusals.{refuse_if}
 use Rattle.message.specs.Header.{fields_of, objects_of, header_of}
 use Rattle.message.specs.Bytes.{word_of, is_chunked, bytes_of}
@@ -14,26 +13,21 @@ use Rattle.message.specs.Types as Types
 use Rattle.message.specs.declared.Fields.{Fields}
 use Rattle.meaning.specs.declared.Meaning.{Meaning}
 use Rattle.meaning.specs.Meaning.{meaning_of}
-use Rattle.reading.specs.declared.Reading.{Reading}
 use Rattle.reading.specs.Reading.{read_of, reading_tried, part_of}
 use Rattle.offers.specs.declared.Offer.{Offer}
 use Rattle.offers.specs.Offers.{object_at, good_object, good_from, good_offer}
 use Rattle.offers.specs.Requests.{fits, asked, fit_of, is_honoured}
 use Rattle.outgoing.specs.Packets.{no_packet, on_wire, control_of, data_of}
-use Rattle.channel.specs.declared.Stored.{Stored}
 use Rattle.channel.specs.Channel.{pending_id, is_repeat, most_retries, fresh, ended, again, heard, sends}
 use Rattle.channel.specs.Outcomes.{on_good_crc, on_expiry}
 use Rattle.power.specs.declared.Change.{Change}
-use Rattle.power.specs.declared.Contract.{Contract}
 use Rattle.power.specs.declared.Standing.{Standing}
 use Rattle.power.specs.Power.{changed, standing_of}
 use Rattle.source.specs.declared.State.{State}
-use Rattle.source.specs.declared.Timer.TheVariants.{NoTimer}
 use Rattle.source.specs.States.{listens}
 use Rattle.stimuli.specs.Leads.{leads}
 use Rattle.hearing.specs.Packets.{on_packet}
 use Rattle.source.specs.Changes.{change_of}
-use Rattle.port.specs.declared.Supply.TheVariants.{Unchanged}
 use Rattle.port.specs.declared.Actions.{Actions}
 use Rattle.port.specs.declared.Port.{Port}
 use Rattle.port.specs.declared.Event.{Event}
@@ -50,6 +44,8 @@ use Rattle.portclaims.proofs.Shapes.{New}
 use Rattle.portclaims.proofs.AcceptExactly.{FittingRequest}
 use Rattle.portclaims.proofs.Groups.{is_stricter}
 use Rattle.portclaims.proofs.SlipsOfTheOldFirmware.{answers_soft_reset}
+use Rattle.reading.specs.Reading.{message_with}
+use Rattle.std.specs.Prelude.{Some, None, Err}
 
 -- ---- offers: both objects, and 5 V 1 A alone, after which a contract for 3 A no longer stands
 abbrev both : Offer
@@ -216,8 +212,8 @@ abbrev pub Example7Begins : Type 0
 Example7Begins =
     (state_of (at in_ready) ≡ State.Ready)
     × ((at in_ready).channel.counter ≡ 3)
-    × ((at in_ready).channel.stored ≡ Stored.Id 0)
-    × ((at in_ready).power.contract ≡ Contract.Made (record { position = 1; voltage = 100; current = 300; worth = 30000 }))
+    × ((at in_ready).channel.stored ≡ Some 0)
+    × ((at in_ready).power.contract ≡ Some (record { position = 1; voltage = 100; current = 300; worth = 30000 }))
     × ((at in_ready).last ≡ both)
 
 -- "Actions, whole: GoodCRC A1 03; transmit A3 07.": those of the Request, and those of the power answer
@@ -225,22 +221,22 @@ abbrev at_the_request : Actions
 at_the_request =
     record {
       good_crc = record { sent = true; bytes = 0xA1 ∷ 0x03 ∷ [] };
-      stop = NoTimer;
+      stop = None;
       transmit = no_packet;
       hard_reset = false;
-      supply = Unchanged;
-      start = NoTimer;
+      supply = None;
+      start = None;
     }
 
 abbrev at_yes : Actions
 at_yes =
     record {
       good_crc = record { sent = false; bytes = 0 ∷ 0 ∷ [] };
-      stop = NoTimer;
+      stop = None;
       transmit = control_of Types.Accept 3;
       hard_reset = false;
-      supply = Unchanged;
-      start = NoTimer;
+      supply = None;
+      start = None;
     }
 
 -- "Accepting, stored 1, held 54,000."
@@ -250,7 +246,7 @@ Example7Answers =
     × ((step (at in_judge) (event Event.Yes)).actions ≡ at_yes)
     × (on_wire (control_of Types.Accept 3) ≡ 0xA3 ∷ 0x07 ∷ [])
     × (state_of (at in_accepting) ≡ State.Accepting)
-    × ((at in_accepting).channel.stored ≡ Stored.Id 1)
+    × ((at in_accepting).channel.stored ≡ Some 1)
     × ((at in_accepting).power.held ≡ 54000)
 
 -- "Same packet again: GoodCRC only" (RepeatChangesNothing), and that it meets that claim's conditions
@@ -258,7 +254,7 @@ abbrev pub Example7Repeats : Type 0
 Example7Repeats =
     (step (at in_accepting) (packet asks_9v) ≡ only_good_crc (theirs 1 2) (at in_accepting))
     × ((only_good_crc (theirs 1 2) (at in_accepting)).actions.good_crc.bytes ≡ 0xA1 ∷ 0x03 ∷ [])
-    × (read_of asks_9v ≡ Reading.Message 1 (theirs 1 2))
+    × (read_of asks_9v ≡ message_with 1 (theirs 1 2))
     × (listens (state_of (at in_accepting)) ≡ true)
     × (is_repeat (at in_accepting).channel 1 ≡ true)
     × (aside (meaning_in 1 (theirs 1 2)) ≡ false)
@@ -273,7 +269,7 @@ Requests =
 
 -- a refusal (RefusedChangesNothing)
 abbrev pub ARefusal : Type 0
-ARefusal = (step (at in_ready) (event Event.Attach)).verdict ≡ Refused NotAwaited
+ARefusal = (step (at in_ready) (event Event.Attach)).verdict ≡ Err NotAwaited
 
 -- ---- messages (Transmissions): one offer goes out three times, the same bytes, and no more
 abbrev pub ThreeTransmissions : Type 0
@@ -298,7 +294,7 @@ abbrev pub APendingOffer : Type 0
 APendingOffer =
     (pending_in (at attached) ≡ true)
     × (ltb (at attached).channel.pending.retries most_retries ≡ true)
-    × (read_of good_crc0 ≡ Reading.Message 0 (theirs 0 1))
+    × (read_of good_crc0 ≡ message_with 0 (theirs 0 1))
     × (meaning_in 0 (theirs 0 1) ≡ Meaning.GoodCrc)
     × (eqb (pending_id (at attached).channel) 0 ≡ true)
     × (pending_in (at in_offer) ≡ false)
@@ -335,7 +331,7 @@ FewerAndFifty =
 abbrev pub OldPowerIsKept : Type 0
 OldPowerIsKept =
     (state_of (at in_ready_at_9v) ≡ State.Ready)
-    × ((at in_ready_at_9v).power.contract ≡ Contract.Made (record { position = 2; voltage = 180; current = 300; worth = 54000 }))
+    × ((at in_ready_at_9v).power.contract ≡ Some (record { position = 2; voltage = 180; current = 300; worth = 54000 }))
     × ((at in_ready_at_9v).power.held ≡ 54000)
     × (state_of (at (in_ready_at_9v ++ (packet asks_5v_later ∷ event Event.Yes ∷ []))) ≡ State.Accepting)
     × ((step (at (in_ready_at_9v ++ (packet asks_5v_later ∷ []))) (event Event.Yes)).held ≡ Change.Accepted)
@@ -345,11 +341,11 @@ OldPowerIsKept =
 -- a Soft_Reset with the MessageID that is stored: in Ready, and in Accepting, where it leads to Hard
 abbrev pub SoftResetsLikeRepeats : Type 0
 SoftResetsLikeRepeats =
-    (read_of soft_reset0 ≡ Reading.Message 0 (theirs 0 13))
+    (read_of soft_reset0 ≡ message_with 0 (theirs 0 13))
     × (meaning_in 0 (theirs 0 13) ≡ Meaning.SoftReset)
     × (is_repeat (at in_ready).channel 0 ≡ true)
     × (answers_soft_reset (state_of (at in_ready)) ≡ true)
-    × (read_of soft_reset1 ≡ Reading.Message 0 (theirs 1 13))
+    × (read_of soft_reset1 ≡ message_with 0 (theirs 1 13))
     × (meaning_in 0 (theirs 1 13) ≡ Meaning.SoftReset)
     × (is_repeat (at in_accepting).channel 1 ≡ true)
     × (is_stricter (state_of (at in_accepting)) ≡ true)
@@ -363,7 +359,7 @@ ADroppedRetry =
     (pending_in (at in_accepting) ≡ true)
     × (ltb (at in_accepting).channel.pending.retries most_retries ≡ true)
     × ((at in_hard).channel ≡ fresh)
-    × ((step (at in_hard) (event Event.Acknowledgement)).verdict ≡ Refused NotAwaited)
+    × ((step (at in_hard) (event Event.Acknowledgement)).verdict ≡ Err NotAwaited)
 
 -- ---- where acknowledgements lead (NeverSleeps, OffersGoOut)
 -- a contract that is honoured, one that no longer is, and none

@@ -1,13 +1,13 @@
 -- What holds of a port between events: where a message may be pending, the timer that runs, what Ready and Waiting have, what is held.
 use Rattle.std.specs.Prelude.{ℕ, ◌<◌, ◌≤◌, ◌≡◌, Bool, true, false, not, cond, ◌&&◌, ◌||◌, List, [], ◌∷◌}
-use Rattle.channel.specs.declared.Stored.{Stored}
 use Rattle.channel.specs.declared.Channel.{Channel}
 use Rattle.channel.specs.Channel.{is_pending, pending_id, most_retries, fresh}
-use Rattle.power.specs.declared.Contract.{Contract}
 use Rattle.source.specs.declared.State.{State}
 use Rattle.source.specs.States.{same}
 use Rattle.port.specs.declared.Port.{Port}
 use Rattle.port.specs.Memory.{state_of, pending_in, most_offers}
+use Rattle.std.specs.Prelude.{Some, None, Option}
+use Rattle.offers.specs.declared.Asked.{Asked}
 
 abbrev pub one_of : List State → State → Bool
 one_of [] s = false
@@ -25,9 +25,9 @@ pends s pending =
     (cond (one_of (State.Accepting ∷ State.Telling ∷ State.Declining ∷ State.Refusing ∷ State.Answering ∷ []) s) pending (not pending))
 
 -- whether a contract is made
-abbrev pub is_made : Contract → Bool
-is_made Contract.Nothing = false
-is_made (Contract.Made a) = true
+abbrev pub is_made : Option Asked → Bool
+is_made None = false
+is_made (Some a) = true
 
 -- "Ready has a contract and Waiting has none, both with the newest offer gone out"; a port that is Declining was Ready, and one that is Detached has none
 abbrev pub calm : State → Bool → Bool → Bool → Bool
@@ -42,9 +42,9 @@ calm s pending goneOut made =
 abbrev pub in_between : State → Bool
 in_between s = one_of (State.Accepting ∷ State.Moving ∷ State.Telling ∷ State.Hard ∷ State.Default ∷ []) s
 
-abbrev pub worth_in : Contract → ℕ
-worth_in Contract.Nothing = 0
-worth_in (Contract.Made a) = a.worth
+abbrev pub worth_in : Option Asked → ℕ
+worth_in None = 0
+worth_in (Some a) = a.worth
 
 -- the states in which the channel is as at attach
 abbrev pub is_reset : State → Bool
@@ -61,7 +61,7 @@ pub record Between (p : Port) : Type 0 where
   pub calmly : calm (state_of p) (pending_in p) p.gone_out (is_made p.power.contract) ≡ true
   pub numbered : Numbered p.channel
   pub reset : is_reset (state_of p) ≡ true → p.channel ≡ fresh
-  pub known : (id : ℕ) → p.channel.stored ≡ Stored.Id id → p.connected ≡ true
+  pub known : (id : ℕ) → p.channel.stored ≡ Some id → p.connected ≡ true
   pub shown : p.gone_out ≡ true → p.newest ≡ p.last
   pub holds : in_between (state_of p) ≡ false → p.power.held ≡ worth_in p.power.contract
   pub counted : p.count ≤ most_offers

@@ -3,12 +3,12 @@ use Rattle.std.specs.Prelude.{◌≡◌, true}
 use Rattle.message.specs.Types as Types
 use Rattle.offers.specs.declared.Offer.{Offer}
 use Rattle.outgoing.specs.Packets.{no_packet, control_of, data_of}
-use Rattle.channel.specs.declared.Stored.{Stored}
 use Rattle.channel.specs.Channel.{fresh}
 use Rattle.source.specs.declared.State.{State}
 use Rattle.source.specs.declared.Timer.TheVariants.{PsHardReset}
 use Rattle.port.specs.declared.Answer.{Answer}
 use Rattle.port.specs.Memory.{state_of}
+use Rattle.std.specs.Prelude.{Some, None}
 
 -- "Offer: newest offer becomes last offer and is transmitted": offer o, with the counter as its MessageID
 pub record ToOffer (o : Offer) (a : Answer) : Type 0 where
@@ -23,7 +23,7 @@ pub record ToSoft (a : Answer) : Type 0 where
   pub state : state_of a.port ≡ State.Soft
   pub sent : a.actions.transmit ≡ control_of Types.SoftReset 0
   pub counter : a.port.channel.counter ≡ 0
-  pub stored : a.port.channel.stored ≡ Stored.Nothing
+  pub stored : a.port.channel.stored ≡ None
 
 -- "Hard: pending dropped, counter 0, stored cleared, signal, start PSHardReset"
 pub record ToHard (a : Answer) : Type 0 where
@@ -31,4 +31,4 @@ pub record ToHard (a : Answer) : Type 0 where
   pub channel : a.port.channel ≡ fresh
   pub signal : a.actions.hard_reset ≡ true
   pub silent : a.actions.transmit ≡ no_packet
-  pub timer : a.actions.start ≡ PsHardReset
+  pub timer : a.actions.start ≡ Some PsHardReset

@@ -3,7 +3,6 @@ use Rattle.std.specs.Prelude.{ℕ, ◌+◌, ◌<◌, ◌≤◌, ◌≡◌, true,
 use Rattle.message.specs.declared.Fields.{Fields}
 use Rattle.message.specs.Types as Types
 use Rattle.meaning.specs.declared.Meaning.{Meaning}
-use Rattle.reading.specs.declared.Reading.{Reading}
 use Rattle.reading.specs.Reading.{read_of}
 use Rattle.outgoing.specs.declared.Packet.{Packet}
 use Rattle.outgoing.specs.Packets.{no_packet, control_of, data_of}
@@ -15,6 +14,7 @@ use Rattle.port.specs.declared.Event.{Event}
 use Rattle.port.specs.Memory.{state_of, pending_in}
 use Rattle.port.specs.Packets.{meaning_in}
 use Rattle.port.specs.Calls.{Call, event, packet, step, run}
+use Rattle.reading.specs.Reading.{message_with}
 
 -- a message of ours with this MessageID
 pub data Ours : Packet → ℕ → Type 0 where
@@ -71,5 +71,5 @@ pub record Made (m : Packet) (p : Port) (cs : List Call) : Type 0 where
 -- a call that tells a port that its message was not heard: the acknowledgement timer, or a GoodCRC with another MessageID than the pending one
 pub data Unheard (p : Port) : Call → Type 0 where
   by_timer : Unheard p (event Event.Acknowledgement)
-  by_another_good_crc : (s : List ℕ) (n : ℕ) (f : Fields) → listens (state_of p) ≡ true → read_of s ≡ Reading.Message n f → meaning_in n f ≡ Meaning.GoodCrc →
+  by_another_good_crc : (s : List ℕ) (n : ℕ) (f : Fields) → listens (state_of p) ≡ true → read_of s ≡ message_with n f → meaning_in n f ≡ Meaning.GoodCrc →
       eqb (pending_id p.channel) f.message_id ≡ false → Unheard p (packet s)

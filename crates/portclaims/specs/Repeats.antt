@@ -1,23 +1,21 @@
 -- A packet that repeats the stored MessageID: which packets are left aside, and the answer to the others.
 use Rattle.std.specs.Prelude.{Bool, true, false}
-use Rattle.ground.specs.declared.Verdict.TheVariants.{Fine}
 use Rattle.message.specs.declared.Fields.{Fields}
 use Rattle.meaning.specs.declared.Meaning.{Meaning}
 use Rattle.outgoing.specs.Packets.{no_packet}
 use Rattle.power.specs.declared.Change.{Change}
-use Rattle.source.specs.declared.Timer.TheVariants.{NoTimer}
-use Rattle.port.specs.declared.Supply.TheVariants.{Unchanged}
 use Rattle.port.specs.declared.Port.{Port}
 use Rattle.port.specs.declared.Answer.{Answer}
 use Rattle.port.specs.Packets.{crc_for}
+use Rattle.std.specs.Prelude.{None, Ok}
 
 -- the same port, and nothing done but a GoodCRC
 abbrev pub only_good_crc : Fields → Port → Answer
 only_good_crc f p =
     record {
-      verdict = Fine;
+      verdict = Ok tt;
       port = p;
-      actions = record { good_crc = crc_for f; stop = NoTimer; transmit = no_packet; hard_reset = false; supply = Unchanged; start = NoTimer };
+      actions = record { good_crc = crc_for f; stop = None; transmit = no_packet; hard_reset = false; supply = None; start = None };
       held = Change.Nothing;
     }
 

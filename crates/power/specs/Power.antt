@@ -3,18 +3,18 @@ use Rattle.std.specs.Prelude.{max, Bool, true, false}
 use Rattle.offers.specs.declared.Asked.{Asked}
 use Rattle.offers.specs.declared.Offer.{Offer}
 use Rattle.offers.specs.Requests.{is_honoured}
-use Rattle.power.specs.declared.Contract.{Contract}
 use Rattle.power.specs.declared.Power.{Power}
 use Rattle.power.specs.declared.Change.{Change}
 use Rattle.power.specs.declared.Standing.{Standing}
 use Rattle.power.specs.declared.Standing.TheVariants.{NoContract, Honoured, Broken}
+use Rattle.std.specs.Prelude.{Some, None, Option}
 
 abbrev pub nothing_asked : Asked
 nothing_asked = record { position = 0; voltage = 0; current = 0; worth = 0 }
 
 -- at attach
 abbrev pub none : Power
-none = record { accepted = nothing_asked; contract = Contract.Nothing; held = 0 }
+none = record { accepted = nothing_asked; contract = None; held = 0 }
 
 -- a Request is to be judged: what it asks is kept until the power answer comes
 abbrev pub judges : Power → Asked → Power
@@ -26,11 +26,11 @@ accepts p = record { accepted = p.accepted; contract = p.contract; held = max p.
 
 -- "the contract and held become the accepted request"
 abbrev pub comes_into_force : Power → Power
-comes_into_force p = record { accepted = p.accepted; contract = Contract.Made p.accepted; held = p.accepted.worth }
+comes_into_force p = record { accepted = p.accepted; contract = Some p.accepted; held = p.accepted.worth }
 
 -- "contract, held cleared"
 abbrev pub gives_up : Power → Power
-gives_up p = record { accepted = p.accepted; contract = Contract.Nothing; held = 0 }
+gives_up p = record { accepted = p.accepted; contract = None; held = 0 }
 
 unfoldable pub changed : Change → Power → Power
 changed Change.Nothing p = p
@@ -43,6 +43,6 @@ by_offer true = Honoured
 by_offer false = Broken
 
 -- no contract; or one that the offer still has; or one that it no longer has
-unfoldable pub standing_of : Contract → Offer → Standing
-standing_of Contract.Nothing o = NoContract
-standing_of (Contract.Made a) o = by_offer (is_honoured a o)
+unfoldable pub standing_of : Option Asked → Offer → Standing
+standing_of None o = NoContract
+standing_of (Some a) o = by_offer (is_honoured a o)

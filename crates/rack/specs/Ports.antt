@@ -1,12 +1,11 @@
 -- "Power rule": the ports of a rack, what they take of the supply, and what the rule says of a port that asks.
 use Rattle.std.specs.Prelude.{ℕ, zero, suc, ◌+◌, ◌-◌, min, Bool, false, cond, ◌&&◌, [], leb, eqb, get_or, set}
-use Rattle.channel.specs.declared.Stored.{Stored}
-use Rattle.power.specs.declared.Contract.{Contract}
 use Rattle.source.specs.declared.State.{State}
 use Rattle.port.specs.declared.Port.{Port}
 use Rattle.slot.specs.declared.Slot.{Slot}
 use Rattle.slot.specs.Load.{load_of, approves}
 use Rattle.rack.specs.declared.Rack.{Rack}
+use Rattle.std.specs.Prelude.{None}
 
 -- "1 to 8 ports"; Req 08: "The new shelf has 32 ports"
 abbrev pub most_ports : ℕ
@@ -19,11 +18,11 @@ nobody =
       port =
           record {
             phase = record { state = State.Detached };
-            channel = record { counter = 0; stored = Stored.Nothing; pending = record { packet = record { bytes = []; length = 0 }; retries = 0 } };
+            channel = record { counter = 0; stored = None; pending = record { packet = record { bytes = []; length = 0 }; retries = 0 } };
             newest = record { objects = []; count = 0 };
             gone_out = false;
             last = record { objects = []; count = 0 };
-            power = record { accepted = record { position = 0; voltage = 0; current = 0; worth = 0 }; contract = Contract.Nothing; held = 0 };
+            power = record { accepted = record { position = 0; voltage = 0; current = 0; worth = 0 }; contract = None; held = 0 };
             count = 0;
             connected = false;
           };

@@ -2,7 +2,6 @@
 use Rattle.std.specs.Prelude.{ℕ, Bool, true, false, List}
 use Rattle.ground.specs.declared.Refusal.{Refusal}
 use Rattle.ground.specs.declared.Refusal.TheVariants.{NotInRack}
-use Rattle.ground.specs.declared.Verdict.TheVariants.{Refused}
 use Rattle.offers.specs.declared.Offer.{Offer}
 use Rattle.power.specs.declared.Change.{Change}
 use Rattle.port.specs.declared.Event.{Event}
@@ -13,6 +12,7 @@ use Rattle.slot.specs.Answers.{settled}
 use Rattle.rack.specs.declared.Rack.{Rack}
 use Rattle.rack.specs.declared.RackAnswer.{RackAnswer}
 use Rattle.rack.specs.Ports.{at, in_rack, place_of, others, put}
+use Rattle.std.specs.Prelude.{Err}
 
 -- what can come to a port of the rack
 pub data Happening : Type 0 where
@@ -38,7 +38,7 @@ abbrev pub turned : Rack → ℕ → Answer → RackAnswer
 turned r i a = record { verdict = a.verdict; rack = put r i a.port; actions = a.actions; held = a.held }
 
 abbrev pub refused_by : Refusal → Rack → RackAnswer
-refused_by no' r = record { verdict = Refused no'; rack = r; actions = no_actions; held = Change.Nothing }
+refused_by no' r = record { verdict = Err no'; rack = r; actions = no_actions; held = Change.Nothing }
 
 -- "port number not in the rack", tried before everything else
 abbrev pub if_in_rack : Bool → Rack → ℕ → Happening → RackAnswer

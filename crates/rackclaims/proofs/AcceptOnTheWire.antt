@@ -12,18 +12,13 @@ use Rattle.message.specs.Types as Types
 use Rattle.message.proofs.RoundTrip.{objects_packed}
 use Rattle.message.proofs.Bytes.{word_of_two}
 use Rattle.meaning.specs.declared.Meaning.{Meaning}
-use Rattle.reading.specs.declared.Reading.{Reading}
 use Rattle.reading.specs.Reading.{read_of}
 use Rattle.sending.specs.Sending.{our_fields}
 use Rattle.offers.specs.declared.Asked.{Asked}
-use Rattle.offers.specs.declared.Fit.{Fit}
-use Rattle.offers.specs.declared.Fit.TheVariants.{Unfit, Fits}
 use Rattle.outgoing.specs.Packets.{on_wire, control_of, data_of}
 use Rattle.channel.specs.Channel.{is_repeat}
 use Rattle.source.specs.declared.State.{State}
 use Rattle.source.specs.declared.Heard.{Heard}
-use Rattle.source.specs.declared.Lead.{Lead}
-use Rattle.source.specs.declared.Lead.TheVariants.{Refuse, To}
 use Rattle.source.specs.declared.Way.{Way}
 use Rattle.source.specs.States.{listens}
 use Rattle.hearing.specs.Packets.{same_heard, on_packet}
@@ -53,6 +48,8 @@ use Rattle.rackclaims.proofs.OwnSteps.{at_no}
 use Rattle.rackclaims.proofs.Settling.{Settles, by_itself, granted, denied, settles}
 use Rattle.rackclaims.proofs.Reached.{Reached}
 use Rattle.rackclaims.proofs.AcceptExactly.{Accepts, AcceptedBy, by_request}
+use Rattle.reading.specs.Reading.{message_with}
+use Rattle.std.specs.Prelude.{Some, None, Option}
 
 -- ---- which messages are an Accept
 nothing_is_none : is_accept [] ≡ false
@@ -98,23 +95,23 @@ no_accept Way.Default a p h = nothing_is_none
 no_accept Way.Detached a p h = nothing_is_none
 
 -- ---- a port by itself answers no Request with Accept
-abbrev request_test : Heard → Lead → Bool
-request_test h Refuse = true
-request_test h (To way) = implies (same_heard h Heard.FittingRequest || same_heard h Heard.OtherRequest) (not (with_accept way))
+abbrev request_test : Heard → Option Way → Bool
+request_test h None = true
+request_test h (Some way) = implies (same_heard h Heard.FittingRequest || same_heard h Heard.OtherRequest) (not (with_accept way))
 
 request_tested : (s : State) (h : Heard) → T (request_test h (on_packet s h))
 unfolding on_packet
 request_tested = at_packets (λ s h. request_test h (on_packet s h)) tt
 
-is_request_lem : (fit : Fit) → (same_heard (requested fit) Heard.FittingRequest || same_heard (requested fit) Heard.OtherRequest) ≡ true
-is_request_lem Unfit = refl
-is_request_lem (Fits a) = refl
+is_request_lem : (fit : Option Asked) → (same_heard (requested fit) Heard.FittingRequest || same_heard (requested fit) Heard.OtherRequest) ≡ true
+is_request_lem None = refl
+is_request_lem (Some a) = refl
 
-module _ (p : Port) (f : Fields) (fit : Fit) where
-  by_lead : (l : Lead) → on_packet (state_of p) (requested fit) ≡ l → is_accept (on_wire (led_by p f Meaning.Request fit l).actions.transmit) ≡ false
+module _ (p : Port) (f : Fields) (fit : Option Asked) where
+  by_lead : (l : Option Way) → on_packet (state_of p) (requested fit) ≡ l → is_accept (on_wire (led_by p f Meaning.Request fit l).actions.transmit) ≡ false
   unfolding turn
-  by_lead Refuse e = nothing_is_none
-  by_lead (To way) e = no_accept way _ _ (not_true (with_accept way) (then _ _ (at_way (request_test (requested fit)) (on_packet (state_of p) (requested fit)) way e (request_tested (state_of p) (requested fit))) (is_request_lem fit)))
+  by_lead None e = nothing_is_none
+  by_lead (Some way) e = no_accept way _ _ (not_true (with_accept way) (then _ _ (at_way (request_test (requested fit)) (on_packet (state_of p) (requested fit)) way e (request_tested (state_of p) (requested fit))) (is_request_lem fit)))
 
   by_repeat : (b : Bool) → is_accept (on_wire (cond b (nothing_done (crc_for f) p) (new_packet p f Meaning.Request fit)).actions.transmit) ≡ false
   unfolding new_packet heard_as nothing_done
@@ -126,7 +123,7 @@ module _ (p : Port) (f : Fields) (fit : Fit) where
   by_listening true = by_repeat (is_repeat p.channel f.message_id && true)
   by_listening false = nothing_is_none
 
-pub own_request : (p : Port) (s : List ℕ) (n : ℕ) (f : Fields) → read_of s ≡ Reading.Message n f → meaning_in n f ≡ Meaning.Request → is_accept (on_wire (Port.step p (Port.packet s)).actions.transmit) ≡ false
+pub own_request : (p : Port) (s : List ℕ) (n : ℕ) (f : Fields) → read_of s ≡ message_with n f → meaning_in n f ≡ Meaning.Request → is_accept (on_wire (Port.step p (Port.packet s)).actions.transmit) ≡ false
 unfolding Port.step packet_of message_of
 own_request p s n f e m = rw (e, m) (by_listening p f (fit_in p n s) (listens (state_of p)))
 
@@ -136,7 +133,7 @@ pub accept_is_sent : (a : Answer) → Accepts a → is_accept (on_wire a.actions
 accept_is_sent a k = rw k.accept_goes_out (control_by_type Types.Accept a.port.channel.counter)
 
 module _ (u : SetUp) (good : good_set_up u ≡ true) (r : Rack) (k : Reached u r) (i : ℕ) (here : i < u.count) (s : List ℕ) (n : ℕ) (f : Fields)
-    (read : read_of s ≡ Reading.Message n f) (request : meaning_in n f ≡ Meaning.Request) where
+    (read : read_of s ≡ message_with n f) (request : meaning_in n f ≡ Meaning.Request) where
   by_view : (c : Port.Call) (a : Answer) → Settles (at r i) (others r i) r.supply c a → c ≡ Port.packet s → is_accept (on_wire a.actions.transmit) ≡ true → AcceptedBy r i (packet s)
   unfolding judged power_rule
   by_view c a (by_itself d e) g w = true_not_false (sym w ∙ ap (λ x. is_accept (on_wire (Port.step (at r i).port x).actions.transmit)) g ∙ own_request (at r i).port s n f read request)

@@ -8,7 +8,6 @@ use mathlib.Core.List.{List, [], ◌∷◌, map}
 use lib.Dec.{eqb, leb, ltb}
 use lib.ListN.{length, get_or, get_or-eq_default}
 use borrow.Author.Tests.{leb-true, eqb-true, eqb-false, ltb-true, ltb-false}
-use Rattle.ground.specs.declared.Verdict.TheVariants.{Fine}
 use Rattle.offers.specs.Offers.{good_offer}
 use Rattle.slot.specs.Load.{load_of}
 use Rattle.rack.specs.Ports.{most_ports, nobody, at, ports_in, loads}
@@ -16,6 +15,7 @@ use Rattle.rack.proofs.Totals.{below, total_same}
 use Rattle.setup.specs.declared.SetUp.{SetUp}
 use Rattle.setup.specs.SetUps.{least, largest_limit, no_setting, setting, good_setting, everywhere, shares, good_count, good_supply, good_set_up, slot_of, rack_of, judged, accepted_set_up}
 use Rattle.portclaims.proofs.Truth.{true_not_false, first, second}
+use Rattle.std.specs.Prelude.{Ok}
 
 -- something that holds everywhere holds at each place
 each : (f : ℕ → Bool) (n i : ℕ) → everywhere f n ≡ true → i < n → f i ≡ true
@@ -34,11 +34,11 @@ made f (x ∷ l) (suc i) d b h = made f l i d b (le_of_suc-le-suc h)
 
 -- a set-up that is accepted is good, and sets up its rack
 module _ (u : SetUp) where
-  by_test : (b : Bool) → good_set_up u ≡ b → (judged b u).verdict ≡ Fine → good_set_up u ≡ true
+  by_test : (b : Bool) → good_set_up u ≡ b → (judged b u).verdict ≡ Ok tt → good_set_up u ≡ true
   by_test true e f = e
   by_test false e f = cc
 
-  pub accepted_is_good : (accepted_set_up u).verdict ≡ Fine → good_set_up u ≡ true
+  pub accepted_is_good : (accepted_set_up u).verdict ≡ Ok tt → good_set_up u ≡ true
   unfolding accepted_set_up
   accepted_is_good e = by_test (good_set_up u) refl e
 

@@ -10,10 +10,8 @@ use Rattle.ground.specs.declared.Refusal.TheVariants.{NotAwaited}
 use Rattle.message.specs.declared.Fields.{Fields}
 use Rattle.message.specs.Types as Types
 use Rattle.meaning.specs.declared.Meaning.{Meaning}
-use Rattle.reading.specs.declared.Reading.{Reading}
 use Rattle.reading.specs.Reading.{read_of}
 use Rattle.offers.specs.declared.Offer.{Offer}
-use Rattle.offers.specs.declared.Fit.{Fit}
 use Rattle.offers.specs.Offers.{good_offer}
 use Rattle.outgoing.specs.Packets.{on_wire}
 use Rattle.channel.specs.Channel.{is_repeat, pending_id, most_retries}
@@ -22,8 +20,6 @@ use Rattle.power.specs.declared.Change.{Change}
 use Rattle.source.specs.declared.State.{State}
 use Rattle.source.specs.declared.Stimulus.{Stimulus}
 use Rattle.source.specs.declared.Timer.{Timer}
-use Rattle.source.specs.declared.Lead.{Lead}
-use Rattle.source.specs.declared.Lead.TheVariants.{Refuse, To}
 use Rattle.source.specs.States.{same, listens}
 use Rattle.source.specs.Changes.{change_of}
 use Rattle.source.proofs.Finite.{state}
@@ -53,6 +49,11 @@ use Rattle.rackclaims.proofs.Reached.{Reached}
 use Rattle.rackclaims.proofs.RefusalsInOrder.{is_to, awaited_in, leads_where_awaited}
 use Rattle.rackclaims.proofs.AcceptExactly.{call_is}
 use Rattle.rackclaims.proofs.AcceptOnTheWire.{control_by_type, own_request}
+use Rattle.std.specs.Prelude.{Some, None, Ok, Err, Option, Result}
+use Rattle.reading.specs.declared.Message.{Message}
+use Rattle.ground.specs.declared.Refusal.{Refusal}
+use Rattle.source.specs.declared.Way.{Way}
+use Rattle.offers.specs.declared.Asked.{Asked}
 
 nothing_either_way : (b : Bool) → said_if b Change.Nothing ≡ Change.Nothing
 nothing_either_way true = refl
@@ -70,16 +71,16 @@ deaf_tells_nothing = state (λ s. implies (not (listens s)) (not (same s State.T
 
 -- ---- a port by itself, outside Judge
 module _ (p : Port) where
-  led : (e : Stimulus) (q : Port) (t : Timer) (l : Lead) → (led_to p e q t l).held ≡ said_if (is_to l) (change_of (state_of p) e)
+  led : (e : Stimulus) (q : Port) (t : Option Timer) (l : Option Way) → (led_to p e q t l).held ≡ said_if (is_to l) (change_of (state_of p) e)
   unfolding turn
-  led e q t Refuse = refl
-  led e q t (To way) = refl
+  led e q t None = refl
+  led e q t (Some way) = refl
 
-  happening : (e : Stimulus) (q : Port) (t : Timer) → (happens p e q t).held ≡ said_if (awaited_in (state_of p) e (facts_of p)) (change_of (state_of p) e)
+  happening : (e : Stimulus) (q : Port) (t : Option Timer) → (happens p e q t).held ≡ said_if (awaited_in (state_of p) e (facts_of p)) (change_of (state_of p) e)
   unfolding happens
   happening e q t = led e q t (leads (state_of p) e (facts_of p)) ∙ ap (λ b. said_if b (change_of (state_of p) e)) (leads_where_awaited (state_of p) e (facts_of p))
 
-  quietly : (e : Stimulus) (q : Port) (t : Timer) → change_of (state_of p) e ≡ Change.Nothing → (happens p e q t).held ≡ Change.Nothing
+  quietly : (e : Stimulus) (q : Port) (t : Option Timer) → change_of (state_of p) e ≡ Change.Nothing → (happens p e q t).held ≡ Change.Nothing
   quietly e q t n = happening e q t ∙ ap (said_if (awaited_in (state_of p) e (facts_of p))) n ∙ nothing_either_way (awaited_in (state_of p) e (facts_of p))
 
   expiry : (pending more : Bool) → (by_outcome (outcome_of pending false more) (refused_by NotAwaited p) p).held ≡ Change.Nothing
@@ -95,17 +96,17 @@ module _ (p : Port) where
   good_crc_lem true false true = refl
   good_crc_lem true false false = quietly Stimulus.Failed _ _ refl
 
-  heard : (f : Fields) (m : Meaning) (fit : Fit) (l : Lead) → (led_by p f m fit l).held ≡ Change.Nothing
+  heard : (f : Fields) (m : Meaning) (fit : Option Asked) (l : Option Way) → (led_by p f m fit l).held ≡ Change.Nothing
   unfolding turn
-  heard f m fit Refuse = refl
-  heard f m fit (To way) = refl
+  heard f m fit None = refl
+  heard f m fit (Some way) = refl
 
-  other : (f : Fields) (m : Meaning) (fit : Fit) (b : Bool) → (cond b (nothing_done (crc_for f) p) (new_packet p f m fit)).held ≡ Change.Nothing
+  other : (f : Fields) (m : Meaning) (fit : Option Asked) (b : Bool) → (cond b (nothing_done (crc_for f) p) (new_packet p f m fit)).held ≡ Change.Nothing
   unfolding nothing_done new_packet
   other f m fit true = refl
   other f m fit false = heard f m fit (on_packet (state_of p) (heard_as m f.message_type fit))
 
-  other_packet_lem : (f : Fields) (m : Meaning) (fit : Fit) → (other_packet p f m fit).held ≡ Change.Nothing
+  other_packet_lem : (f : Fields) (m : Meaning) (fit : Option Asked) → (other_packet p f m fit).held ≡ Change.Nothing
   unfolding other_packet
   other_packet_lem f m fit = other f m fit (is_repeat p.channel f.message_id && not (is_soft_reset m))
 
@@ -113,7 +114,7 @@ module _ (p : Port) where
   abbrev acked : Meaning → Fields → Bool
   acked m f = means_good_crc m && (pending_in p && eqb (pending_id p.channel) f.message_id)
 
-  by_meaning_lem : (m : Meaning) (f : Fields) (fit : Fit) → (by_meaning m p f fit).held ≡ said_if (acked m f && same (state_of p) State.Telling) Change.InForce
+  by_meaning_lem : (m : Meaning) (f : Fields) (fit : Option Asked) → (by_meaning m p f fit).held ≡ said_if (acked m f && same (state_of p) State.Telling) Change.InForce
   unfolding by_meaning good_crc_heard on_good_crc
   by_meaning_lem Meaning.GoodCrc f fit = good_crc_lem (pending_in p) (eqb (pending_id p.channel) f.message_id) (ltb p.channel.pending.retries most_retries)
   by_meaning_lem Meaning.Unsupported f fit = other_packet_lem f Meaning.Unsupported fit
@@ -127,25 +128,25 @@ module _ (p : Port) where
   none_told true = refl
   none_told false = refl
 
-  on_message : (b : Bool) → listens (state_of p) ≡ b → (m : Meaning) (f : Fields) (fit : Fit) →
+  on_message : (b : Bool) → listens (state_of p) ≡ b → (m : Meaning) (f : Fields) (fit : Option Asked) →
       (cond b (by_meaning m p f fit) (refused_by NotAwaited p)).held ≡ said_if (acked m f && same (state_of p) State.Telling) Change.InForce
   on_message true l m f fit = by_meaning_lem m f fit
   on_message false l m f fit =
       let elsewhere : same (state_of p) State.Telling ≡ false = not_true (same (state_of p) State.Telling) (then (not (listens (state_of p))) _ (deaf_tells_nothing (state_of p)) (ap not l)) in
       sym (ap (λ b. said_if (acked m f && b) Change.InForce) elsewhere ∙ none_told (acked m f))
 
-  on_reading : (r : Reading) (s : List ℕ) → (read_to r p s).held ≡ said_if (acknowledges r p && same (state_of p) State.Telling) Change.InForce
+  on_reading : (r : Result Message Refusal) (s : List ℕ) → (read_to r p s).held ≡ said_if (acknowledges r p && same (state_of p) State.Telling) Change.InForce
   unfolding message_of
-  on_reading (Reading.Message n f) s = on_message (listens (state_of p)) refl (meaning_in n f) f (fit_in p n s)
-  on_reading (Reading.Refused no') s = refl
+  on_reading (Ok m) s = on_message (listens (state_of p)) refl (meaning_in m.objects m.fields) m.fields (fit_in p m.objects s)
+  on_reading (Err no') s = refl
 
   on_packet_lem : (s : List ℕ) → (packet_of p s).held ≡ said_if (acknowledges (read_of s) p && same (state_of p) State.Telling) Change.InForce
   unfolding packet_of
   on_packet_lem s = on_reading (read_of s) s
 
   -- a Request that a port answers by itself gets no Accept
-  no_accept : (s : List ℕ) (r : Reading) → read_of s ≡ r → (is_request r && is_accept (on_wire (Port.step p (Port.packet s)).actions.transmit)) ≡ false
-  no_accept s (Reading.Message n f) e = by_meant (meaning_in n f) refl
+  no_accept : (s : List ℕ) (r : Result Message Refusal) → read_of s ≡ r → (is_request r && is_accept (on_wire (Port.step p (Port.packet s)).actions.transmit)) ≡ false
+  no_accept s (Ok m) e = by_meant (meaning_in m.objects m.fields) refl
     where
       by_meant : (m : Meaning) → meaning_in n f ≡ m → (means_request m && is_accept (on_wire (Port.step p (Port.packet s)).actions.transmit)) ≡ false
       by_meant Meaning.Request g = own_request p s n f e g
@@ -155,7 +156,7 @@ module _ (p : Port) where
       by_meant Meaning.GetSourceCap g = refl
       by_meant Meaning.SoftReset g = refl
       by_meant Meaning.Quiet g = refl
-  no_accept s (Reading.Refused no') e = refl
+  no_accept s (Err no') e = refl
 
   on_offer : (b : Bool) (o : Offer) → (offer_judged b p o).held ≡ Change.Nothing
   unfolding change_of

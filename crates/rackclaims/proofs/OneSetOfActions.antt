@@ -15,17 +15,18 @@ use Rattle.port.specs.Calls.{packet, step}
 use Rattle.portclaims.proofs.AcceptExactly.{FittingRequest, comes_to_ask, asks_quietly}
 use Rattle.slot.specs.Answers.{answer_of, judged}
 use Rattle.rackclaims.proofs.OwnSteps.{at_yes_lem, at_no}
+use Rattle.std.specs.Prelude.{None}
 
 -- what a step has no part in, of the six actions
 pub record OnlyFirstTwo (a : Answer) : Type 0 where
   pub transmit : a.actions.transmit ≡ no_packet
   pub hard_reset_lem : a.actions.hard_reset ≡ false
-  pub supply : a.actions.supply ≡ Supply.Unchanged
-  pub start : a.actions.start ≡ Timer.NoTimer
+  pub supply : a.actions.supply ≡ None
+  pub start : a.actions.start ≡ None
 
 pub record OnlyLastFour (a : Answer) : Type 0 where
   pub good_crc_lem : a.actions.good_crc ≡ no_crc
-  pub stop : a.actions.stop ≡ Timer.NoTimer
+  pub stop : a.actions.stop ≡ None
 
 module _ (p : Port) (s : List ℕ) (q : FittingRequest p s) where
   -- THE CLAIM: the Request's own step has at most GoodCRC and a timer to stop, and these stand in the answer

@@ -7,7 +7,6 @@ use mathlib.Core.Path.{◌≡◌, refl, sym, ap, ◌∙◌}
 use mathlib.Core.Bool.{Bool, true, false, not, ◌&&◌}
 use mathlib.Core.List.{[], ◌∷◌}
 use lib.Dec.{T}
-use Rattle.ground.specs.declared.Verdict.TheVariants.{Fine}
 use Rattle.message.specs.Types as Types
 use Rattle.offers.specs.declared.Asked.{Asked}
 use Rattle.outgoing.specs.Packets.{control_of}
@@ -19,8 +18,6 @@ use Rattle.source.specs.declared.Stimulus.{Stimulus}
 use Rattle.source.specs.declared.Timer.{Timer}
 use Rattle.source.specs.declared.Heard.{Heard}
 use Rattle.source.specs.declared.Facts.{Facts}
-use Rattle.source.specs.declared.Lead.{Lead}
-use Rattle.source.specs.declared.Lead.TheVariants.{Refuse, To}
 use Rattle.source.specs.declared.Way.{Way}
 use Rattle.source.specs.States.{same}
 use Rattle.stimuli.specs.Leads.{leads}
@@ -43,6 +40,7 @@ use Rattle.portclaims.proofs.Ways as Ways
 use Rattle.portclaims.proofs.Tables as Tables
 use Rattle.portclaims.proofs.Led.{turn_state, led_state, at_way}
 use Rattle.portclaims.proofs.Shapes.{Rule, by_attach, by_detach, by_hard_reset, by_acknowledgement, by_failure, by_sender_response, by_source_capability, by_ps_hard_reset, by_supply_ready, by_yes, by_no, by_offer_lem, fit_in, Shape, refused, idle, again, led, heard, shape}
+use Rattle.std.specs.Prelude.{Some, None, Ok, Option}
 
 -- a request is accepted and not yet in force
 abbrev pub is_in_hand : State → Bool
@@ -82,17 +80,17 @@ hand_test s e way = implies (is_in_hand (Ways.state_after (Tables.ruled_state e 
 abbrev force_test : State → Stimulus → Bool
 force_test s e = implies (is_in_force (change_of s e)) (is_in_hand s)
 
-abbrev led_test : State → Stimulus → Lead → Bool
-led_test s e Refuse = true
-led_test s e (To way) = implies (not (same s State.Judge)) (not (is_accepted (change_of s e)) && (force_test s e && hand_test s e way))
+abbrev led_test : State → Stimulus → Option Way → Bool
+led_test s e None = true
+led_test s e (Some way) = implies (not (same s State.Judge)) (not (is_accepted (change_of s e)) && (force_test s e && hand_test s e way))
 
 led_tested : (s : State) (e : Stimulus) (f : Facts) → T (led_test s e (leads s e f))
 unfolding leads change_of
 led_tested = everywhere (λ s e f. led_test s e (leads s e f)) tt
 
-abbrev heard_test : State → Lead → Bool
-heard_test s Refuse = true
-heard_test s (To way) = not (is_in_hand (Ways.state_after s way))
+abbrev heard_test : State → Option Way → Bool
+heard_test s None = true
+heard_test s (Some way) = not (is_in_hand (Ways.state_after s way))
 
 heard_tested : (s : State) (h : Heard) → T (heard_test s (on_packet s h))
 unfolding on_packet
@@ -129,7 +127,7 @@ change_accepted Change.Accepted p = refl
 change_accepted Change.InForce p = refl
 change_accepted Change.GivenUp p = refl
 
-rule_power : (p : Port) (c : Call) (e : Stimulus) (q : Port) (t : Timer) → Rule p c e q t → clears e ≡ false → q.power ≡ p.power
+rule_power : (p : Port) (c : Call) (e : Stimulus) (q : Port) (t : Option Timer) → Rule p c e q t → clears e ≡ false → q.power ≡ p.power
 rule_power p c e q t by_attach h = true_not_false h
 rule_power p c e q t by_detach h = true_not_false h
 rule_power p c e q t by_hard_reset h = refl
@@ -150,7 +148,7 @@ pub record Own (p : Port) (a : Answer) : Type 0 where
   pub in_hand_lem : is_in_hand (state_of a.port) ≡ true → (is_in_hand (state_of p) ≡ true) × (a.held ≡ Change.Nothing) × (a.port.power.accepted ≡ p.power.accepted)
 
 module _ (p : Port) (elsewhere : same (state_of p) State.Judge ≡ false) where
-  own_led : (c : Call) (e : Stimulus) (q : Port) (t : Timer) (way : Way) → Rule p c e q t → leads (state_of p) e (facts_of p) ≡ To way →
+  own_led : (c : Call) (e : Stimulus) (q : Port) (t : Option Timer) (way : Way) → Rule p c e q t → leads (state_of p) e (facts_of p) ≡ Some way →
       Own p (turn q (state_of p) no_crc t (change_of (state_of p) e) way nothing_asked)
   unfolding turn
   own_led c e q t way rule l =
@@ -201,10 +199,10 @@ no_more Change.GivenUp held asked h k = omega arith
 
 -- ---- in Judge: the power answer
 pub record Answered (q : Port) (a : Answer) (state : State) (type held : ℕ) (change : Change) : Type 0 where
-  pub fine : a.verdict ≡ Fine
+  pub fine : a.verdict ≡ Ok tt
   pub state_is : state_of a.port ≡ state
   pub transmits : a.actions.transmit ≡ control_of type a.port.channel.counter
-  pub joins : (a.actions.good_crc ≡ no_crc) × (a.actions.stop ≡ Timer.NoTimer)
+  pub joins : (a.actions.good_crc ≡ no_crc) × (a.actions.stop ≡ None)
   pub accepted_is : a.port.power.accepted ≡ q.power.accepted
   pub held_is : a.port.power.held ≡ held
   pub change_is : a.held ≡ change

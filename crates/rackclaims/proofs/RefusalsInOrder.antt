@@ -6,14 +6,10 @@ use mathlib.Core.Bool.{Bool, true, false, not, cond, ◌&&◌, ◌||◌}
 use mathlib.Core.List.{List}
 use lib.Dec.{T, ltb}
 use Rattle.ground.specs.declared.Refusal.TheVariants.{BadOffer, NotAwaited, NotInRack}
-use Rattle.ground.specs.declared.Verdict.{Verdict}
-use Rattle.ground.specs.declared.Verdict.TheVariants.{Fine, Refused}
 use Rattle.message.specs.declared.Fields.{Fields}
 use Rattle.meaning.specs.declared.Meaning.{Meaning}
-use Rattle.reading.specs.declared.Reading.{Reading}
 use Rattle.reading.specs.Reading.{read_of}
 use Rattle.offers.specs.declared.Offer.{Offer}
-use Rattle.offers.specs.declared.Fit.{Fit}
 use Rattle.offers.specs.Offers.{good_offer}
 use Rattle.channel.specs.declared.Outcome.{Outcome}
 use Rattle.channel.specs.Channel.{is_repeat, most_retries}
@@ -22,8 +18,6 @@ use Rattle.source.specs.declared.Stimulus.{Stimulus}
 use Rattle.source.specs.declared.Timer.{Timer}
 use Rattle.source.specs.declared.Heard.{Heard}
 use Rattle.source.specs.declared.Facts.{Facts}
-use Rattle.source.specs.declared.Lead.{Lead}
-use Rattle.source.specs.declared.Lead.TheVariants.{Refuse, To}
 use Rattle.source.specs.declared.State.{State}
 use Rattle.source.specs.States.{same, listens}
 use Rattle.source.proofs.Finite.{everywhere, at_packets}
@@ -47,11 +41,17 @@ use Rattle.rackclaims.specs.Verdicts.{awaits, or_eight, of_packet, verdict_at, v
 use Rattle.rackclaims.proofs.Settling.{judge_is}
 use Rattle.rackclaims.proofs.RefusedChangesNothing.{fine_in_judge}
 use Rattle.rackclaims.proofs.Neighbours.{answers_by_itself, answers_by_the_rule}
+use Rattle.ground.specs.Refusals.{Verdict}
+use Rattle.std.specs.Prelude.{Some, None, Ok, Err, Option, Result}
+use Rattle.reading.specs.declared.Message.{Message}
+use Rattle.ground.specs.declared.Refusal.{Refusal}
+use Rattle.source.specs.declared.Way.{Way}
+use Rattle.offers.specs.declared.Asked.{Asked}
 
 -- ---- the tables, tested: a stimulus leads somewhere exactly where it is awaited
-abbrev pub is_to : Lead → Bool
-is_to Refuse = false
-is_to (To way) = true
+abbrev pub is_to : Option Way → Bool
+is_to None = false
+is_to (Some way) = true
 
 abbrev pub awaited_in : State → Stimulus → Facts → Bool
 awaited_in s Stimulus.Attach f = same s State.Detached
@@ -90,12 +90,12 @@ packets_tested = at_packets (λ s h. implies (listens s) (is_to (on_packet s h))
 
 -- ---- a port by itself
 module _ (p : Port) where
-  led : (e : Stimulus) (q : Port) (t : Timer) (l : Lead) → (led_to p e q t l).verdict ≡ or_eight (is_to l)
+  led : (e : Stimulus) (q : Port) (t : Option Timer) (l : Option Way) → (led_to p e q t l).verdict ≡ or_eight (is_to l)
   unfolding turn
-  led e q t Refuse = refl
-  led e q t (To way) = refl
+  led e q t None = refl
+  led e q t (Some way) = refl
 
-  happening : (e : Stimulus) (q : Port) (t : Timer) → (happens p e q t).verdict ≡ or_eight (awaited_in (state_of p) e (facts_of p))
+  happening : (e : Stimulus) (q : Port) (t : Option Timer) → (happens p e q t).verdict ≡ or_eight (awaited_in (state_of p) e (facts_of p))
   unfolding happens
   happening e q t = led e q t (leads (state_of p) e (facts_of p)) ∙ ap or_eight (leads_where_awaited (state_of p) e (facts_of p))
 
@@ -120,30 +120,30 @@ module _ (p : Port) where
 
   -- while the port listens
   module _ (listening : listens (state_of p) ≡ true) where
-    good_crc_lem : (o : Outcome) → (by_outcome o (nothing_done no_crc p) p).verdict ≡ Fine
+    good_crc_lem : (o : Outcome) → (by_outcome o (nothing_done no_crc p) p).verdict ≡ Ok tt
     unfolding by_outcome acknowledged failed resent nothing_done
     good_crc_lem Outcome.NonePending = refl
     good_crc_lem Outcome.Acknowledged = happening Stimulus.Acknowledged _ _
     good_crc_lem Outcome.Again = refl
     good_crc_lem Outcome.Failed = happening Stimulus.Failed _ _
 
-    heard : (f : Fields) (m : Meaning) (fit : Fit) (l : Lead) → (led_by p f m fit l).verdict ≡ or_eight (is_to l)
+    heard : (f : Fields) (m : Meaning) (fit : Option Asked) (l : Option Way) → (led_by p f m fit l).verdict ≡ or_eight (is_to l)
     unfolding turn
-    heard f m fit Refuse = refl
-    heard f m fit (To way) = refl
+    heard f m fit None = refl
+    heard f m fit (Some way) = refl
 
-    other : (f : Fields) (m : Meaning) (fit : Fit) (b : Bool) → (cond b (nothing_done (crc_for f) p) (new_packet p f m fit)).verdict ≡ Fine
+    other : (f : Fields) (m : Meaning) (fit : Option Asked) (b : Bool) → (cond b (nothing_done (crc_for f) p) (new_packet p f m fit)).verdict ≡ Ok tt
     unfolding nothing_done new_packet
     other f m fit true = refl
     other f m fit false =
         let h = heard_as m f.message_type fit in
         heard f m fit (on_packet (state_of p) h) ∙ ap or_eight (then (listens (state_of p)) (is_to (on_packet (state_of p) h)) (packets_tested (state_of p) h) listening)
 
-    other_packet_lem : (f : Fields) (m : Meaning) (fit : Fit) → (other_packet p f m fit).verdict ≡ Fine
+    other_packet_lem : (f : Fields) (m : Meaning) (fit : Option Asked) → (other_packet p f m fit).verdict ≡ Ok tt
     unfolding other_packet
     other_packet_lem f m fit = other f m fit (is_repeat p.channel f.message_id && not (is_soft_reset m))
 
-    by_meaning_lem : (m : Meaning) (f : Fields) (fit : Fit) → (by_meaning m p f fit).verdict ≡ Fine
+    by_meaning_lem : (m : Meaning) (f : Fields) (fit : Option Asked) → (by_meaning m p f fit).verdict ≡ Ok tt
     unfolding by_meaning good_crc_heard
     by_meaning_lem Meaning.GoodCrc f fit = good_crc_lem (on_good_crc p.channel f.message_id)
     by_meaning_lem Meaning.Unsupported f fit = other_packet_lem f Meaning.Unsupported fit
@@ -153,20 +153,20 @@ module _ (p : Port) where
     by_meaning_lem Meaning.Quiet f fit = other_packet_lem f Meaning.Quiet fit
     by_meaning_lem Meaning.Request f fit = other_packet_lem f Meaning.Request fit
 
-  on_message : (b : Bool) → listens (state_of p) ≡ b → (m : Meaning) (f : Fields) (fit : Fit) → (cond b (by_meaning m p f fit) (refused_by NotAwaited p)).verdict ≡ or_eight b
+  on_message : (b : Bool) → listens (state_of p) ≡ b → (m : Meaning) (f : Fields) (fit : Option Asked) → (cond b (by_meaning m p f fit) (refused_by NotAwaited p)).verdict ≡ or_eight b
   on_message true l m f fit = by_meaning_lem l m f fit
   on_message false l m f fit = refl
 
-  on_reading : (r : Reading) (s : List ℕ) → (read_to r p s).verdict ≡ of_packet r p
+  on_reading : (r : Result Message Refusal) (s : List ℕ) → (read_to r p s).verdict ≡ of_packet r p
   unfolding message_of
-  on_reading (Reading.Message n f) s = on_message (listens (state_of p)) refl (meaning_in n f) f (fit_in p n s)
-  on_reading (Reading.Refused no') s = refl
+  on_reading (Ok m) s = on_message (listens (state_of p)) refl (meaning_in m.objects m.fields) m.fields (fit_in p m.objects s)
+  on_reading (Err no') s = refl
 
   on_packet_lem : (s : List ℕ) → (packet_of p s).verdict ≡ of_packet (read_of s) p
   unfolding packet_of
   on_packet_lem s = on_reading (read_of s) s
 
-  on_offer : (b : Bool) (o : Offer) → (offer_judged b p o).verdict ≡ cond b Fine (Refused BadOffer)
+  on_offer : (b : Bool) (o : Offer) → (offer_judged b p o).verdict ≡ cond b (Ok tt) (Err BadOffer)
   on_offer true o = happening Stimulus.NewOffer _ _
   on_offer false o = refl
 
@@ -183,9 +183,9 @@ module _ (r : Rack) (i : ℕ) where
   own_verdict (new_offer o) = on_offer (at r i).port (good_offer (at r i).limit o) o
 
   -- a port that has asked was not refused
-  asked_is_fine : (h : Happening) → has_asked (at r i).port (own_answer r i h).port ≡ true → (v : Verdict) → (own_answer r i h).verdict ≡ v → (own_answer r i h).verdict ≡ Fine
-  asked_is_fine h e Fine g = g
-  asked_is_fine h e (Refused no') g =
+  asked_is_fine : (h : Happening) → has_asked (at r i).port (own_answer r i h).port ≡ true → (v : Verdict) → (own_answer r i h).verdict ≡ v → (own_answer r i h).verdict ≡ Ok tt
+  asked_is_fine h e (Ok _) g = g
+  asked_is_fine h e (Err no') g =
       true_not_false
       (sym e
       ∙ ap (has_asked (at r i).port) (the_same_port (at r i).port (call_of (at r i).limit h) no' g)
@@ -201,7 +201,7 @@ module _ (r : Rack) (i : ℕ) where
   verdict_here : (h : Happening) → (answer_at r i h).verdict ≡ verdict_at (at r i) h
   verdict_here h = by_asking h (has_asked (at r i).port (own_answer r i h).port) refl ∙ own_verdict h
 
-by_number : (b : Bool) (r : Rack) (i : ℕ) (h : Happening) → (if_in_rack b r i h).verdict ≡ cond b (verdict_at (at r i) h) (Refused NotInRack)
+by_number : (b : Bool) (r : Rack) (i : ℕ) (h : Happening) → (if_in_rack b r i h).verdict ≡ cond b (verdict_at (at r i) h) (Err NotInRack)
 by_number true r i h = verdict_here r i h
 by_number false r i h = refl
 

@@ -5,7 +5,6 @@ use mathlib.Core.Path.{◌≡◌, ap, ◌∙◌}
 use mathlib.Core.Bool.{true, false}
 use mathlib.Core.List.{List}
 use Rattle.message.specs.declared.Fields.{Fields}
-use Rattle.reading.specs.declared.Reading.{Reading}
 use Rattle.reading.specs.Reading.{read_of}
 use Rattle.channel.specs.Channel.{is_repeat}
 use Rattle.source.specs.declared.State.{State}
@@ -20,8 +19,9 @@ use Rattle.rack.specs.Ports.{at}
 use Rattle.rack.specs.Steps.{packet, own_answer, answer_at, turned}
 use Rattle.rackclaims.proofs.Neighbours.{put_same, answers_by_itself}
 use Rattle.rackclaims.proofs.RefusalsInOrder.{never_twice}
+use Rattle.reading.specs.Reading.{message_with}
 
-module _ (r : Rack) (i : ℕ) (s : List ℕ) (n : ℕ) (f : Fields) (listening : listens (state_of (at r i).port) ≡ true) (read : read_of s ≡ Reading.Message n f)
+module _ (r : Rack) (i : ℕ) (s : List ℕ) (n : ℕ) (f : Fields) (listening : listens (state_of (at r i).port) ≡ true) (read : read_of s ≡ message_with n f)
     (again : is_repeat (at r i).port.channel f.message_id ≡ true) (not-aside : aside (meaning_in n f) ≡ false) where
   alone : own_answer r i (packet s) ≡ only_good_crc f (at r i).port
   unfolding Port.step

@@ -7,7 +7,6 @@ use mathlib.Core.Path.{◌≡◌, sym, ap, subst, ◌∙◌}
 use mathlib.Core.Bool.{true, cond}
 use mathlib.Core.List.{List}
 use lib.Dec.{eqb}
-use Rattle.ground.specs.declared.Verdict.TheVariants.{Fine}
 use Rattle.slot.specs.Load.{load_of}
 use Rattle.rack.specs.Ports.{at, total, loads, others}
 use Rattle.rack.specs.Runs.{Happens, run}
@@ -18,8 +17,9 @@ use Rattle.rackclaims.specs.History.{Entry, history, held_by}
 use Rattle.rackclaims.proofs.GoodSetUps.{accepted_is_good, good_is_set_up}
 use Rattle.rackclaims.proofs.Reached.{Reached, always_reached, ports_are}
 use Rattle.rackclaims.proofs.HeldByHistory.{held_by_history}
+use Rattle.std.specs.Prelude.{Ok}
 
-module _ (u : SetUp) (accepted : (accepted_set_up u).verdict ≡ Fine) (es : List Happens) where
+module _ (u : SetUp) (accepted : (accepted_set_up u).verdict ≡ Ok tt) (es : List Happens) where
   abbrev entries : List Entry
   entries = history (accepted_set_up u).rack es
 

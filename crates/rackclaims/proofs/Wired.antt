@@ -23,7 +23,6 @@ use Rattle.source.specs.declared.Stimulus.{Stimulus}
 use Rattle.source.specs.declared.Timer.{Timer}
 use Rattle.source.specs.declared.Way.{Way}
 use Rattle.source.specs.Changes.{change_of}
-use Rattle.port.specs.declared.GoodCrc.{GoodCrc}
 use Rattle.port.specs.declared.Port.{Port}
 use Rattle.port.specs.declared.Answer.{Answer}
 use Rattle.port.specs.Parts.{to}
@@ -36,6 +35,7 @@ use Rattle.portclaims.proofs.Truth.{true_not_false, first, second}
 use Rattle.portclaims.proofs.Shapes.{Rule, by_attach, by_detach, by_hard_reset, by_acknowledgement, by_failure, by_sender_response, by_source_capability, by_ps_hard_reset, by_supply_ready, by_yes, by_no, by_offer_lem, fit_in, Shape, refused, idle, again as sent_again, led, heard as is-heard, shape}
 use Rattle.rackclaims.specs.Wire.{is_offer, last_offer, object_on}
 use Rattle.rackclaims.proofs.WireOffers.{no_offer_lem, nothing_sent, control_no_offer, control_sent, offer_is_one, voltage_on_wire}
+use Rattle.std.specs.Prelude.{Option}
 
 pub record Wired (p : Port) (offer : List ℕ) : Type 0 where
   pub shows : (i : ℕ) → has p.last i ≡ true → voltage_of (object_on offer i) ≡ voltage_of (object_at p.last i)
@@ -126,7 +126,7 @@ wired_change Change.Accepted q offer k = kept refl refl k.again k
 wired_change Change.InForce q offer k = kept refl refl k.again k
 wired_change Change.GivenUp q offer k = kept refl refl k.again k
 
-wired_turn : (q : Port) (offer : List ℕ) (s : State) (crc : GoodCrc) (t : Timer) (c : Change) (w : Way) (a : Asked) → Wired q offer →
+wired_turn : (q : Port) (offer : List ℕ) (s : State) (crc : Option (List ℕ)) (t : Option Timer) (c : Change) (w : Way) (a : Asked) → Wired q offer →
     Wired (turn q s crc t c w a).port (last_offer (turn q s crc t c w a).actions.transmit offer)
 unfolding turn
 wired_turn q offer s crc t c w a k = wired_enters w a (with_change c q) offer (wired_change c q offer k)
@@ -142,7 +142,7 @@ wired_first o limit good = let n = counted limit o good in detached o [] n.0 n.1
 
 module _ (p : Port) (offer : List ℕ) (k : Wired p offer) where
   -- what the protocol rules do before the states lead on: a port is cleared, its pending message is gone, its newest offer is replaced by a good one, or nothing
-  wired_ruled : (c : Call) (e : Stimulus) (q : Port) (t : Timer) → Rule p c e q t → Wired q offer
+  wired_ruled : (c : Call) (e : Stimulus) (q : Port) (t : Option Timer) → Rule p c e q t → Wired q offer
   unfolding ended
   wired_ruled c e q t by_attach = detached p.newest offer k.some k.few
   wired_ruled c e q t by_detach = detached p.newest offer k.some k.few

@@ -7,13 +7,11 @@ use mathlib.Core.List.{List, [], ◌∷◌, ◌++◌}
 use lib.Dec.{eqb}
 use borrow.Author.Tests.{eqb-true, eqb-false}
 use Rattle.ground.specs.declared.Refusal.TheVariants.{TooShort, BadOffer, NotAwaited, NotInRack, BadSetUp}
-use Rattle.ground.specs.declared.Verdict.TheVariants.{Fine, Refused}
 use Rattle.ground.specs.Refusals.{refuse_if}
 use Rattle.message.specs.declared.Fields.{Fields}
 use Rattle.message.specs.Header.{fields_of, objects_of, header_of}
 use Rattle.message.specs.Bytes.{word_of, is_chunked, bytes_of}
 use Rattle.meaning.specs.Meaning.{meaning_of}
-use Rattle.reading.specs.declared.Reading.{Reading}
 use Rattle.reading.specs.Reading.{read_of, reading_tried, part_of}
 use Rattle.offers.specs.Offers.{object_at, good_object, good_from, good_offer}
 use Rattle.offers.specs.Requests.{fits, asked, fit_of, is_honoured}
@@ -48,6 +46,8 @@ use Rattle.rackclaims.specs.History.{history_by, history, held_by}
 use Rattle.rackclaims.specs.NightDesk as Desk
 use Rattle.rackclaims.proofs.Settling.{asks}
 use Rattle.rackclaims.proofs.Neighbours.{others_stay}
+use Rattle.reading.specs.Reading.{message_with}
+use Rattle.std.specs.Prelude.{Ok, Err}
 
 -- the fields of a receiver's first Request
 abbrev asks_once : Fields
@@ -103,7 +103,7 @@ beside = (step desk 4 (event Event.Attach)).rack
 
 pub record Worked : Type 0 where
   -- a set-up that is accepted, and two that are not
-  pub set_ups : ((accepted_set_up Desk.night_desk).verdict ≡ Fine) × ((accepted_set_up too_little).verdict ≡ Refused BadSetUp) × ((accepted_set_up nothing_offered).verdict ≡ Refused BadSetUp)
+  pub set_ups : ((accepted_set_up Desk.night_desk).verdict ≡ Ok tt) × ((accepted_set_up too_little).verdict ≡ Err BadSetUp) × ((accepted_set_up nothing_offered).verdict ≡ Err BadSetUp)
   -- SupplyHolds, HeldByHistory: what the ports hold by the history of that night; and what port 1 then holds: the larger, what is in force, nothing
   pub held_that_night : (held_at 1 night ≡ 120000) × (held_at 2 night ≡ 54000) × (held_at 3 night ≡ 36000) × (held_at 4 night ≡ 0)
   pub held_in_the_end : (held_at 1 asks_less ≡ 120000) × (held_at 1 has_less ≡ 30000) × (held_at 1 is_gone ≡ 0)
@@ -120,15 +120,15 @@ pub record Worked : Type 0 where
       × (has_asked (at desk 2).port (own_answer desk 2 (event Event.Detach)).port ≡ false)
   -- RefusalsInOrder, RefusedChangesNothing: a port that is not there, a packet that cannot be read, a bad offer, an event that is not awaited
   pub refusals :
-      ((step desk 5 (event Event.Detach)).verdict ≡ Refused NotInRack)
-      × ((step desk 0 (event Event.Detach)).verdict ≡ Refused NotInRack)
-      × ((step desk 3 (packet (0x82 ∷ []))).verdict ≡ Refused TooShort)
-      × ((step desk 3 (new_offer no_offer)).verdict ≡ Refused BadOffer)
-      × ((step desk 3 (event Event.Attach)).verdict ≡ Refused NotAwaited)
+      ((step desk 5 (event Event.Detach)).verdict ≡ Err NotInRack)
+      × ((step desk 0 (event Event.Detach)).verdict ≡ Err NotInRack)
+      × ((step desk 3 (packet (0x82 ∷ []))).verdict ≡ Err TooShort)
+      × ((step desk 3 (new_offer no_offer)).verdict ≡ Err BadOffer)
+      × ((step desk 3 (event Event.Attach)).verdict ≡ Err NotAwaited)
   -- RepeatChangesNothing: port 2's Request again, while it is Accepting
   pub a_repeat :
       (listens (state_of (at desk 1).port) ≡ true)
-      × (read_of Desk.for54000 ≡ Reading.Message 1 asks_once)
+      × (read_of Desk.for54000 ≡ message_with 1 asks_once)
       × (is_repeat (at desk 1).port.channel 0 ≡ true)
       × (aside (meaning_in 1 asks_once) ≡ false)
   -- NothingDroppedIsRetried: port 1's Accept is pending, and goes out again

@@ -2,7 +2,6 @@
 -- acknowledged; given up, at detach and when Default is ready; else nothing.
 use Rattle.std.specs.Prelude.{Bool, true, false, not, cond, ◌&&◌, eqb}
 use Rattle.meaning.specs.declared.Meaning.{Meaning}
-use Rattle.reading.specs.declared.Reading.{Reading}
 use Rattle.reading.specs.Reading.{read_of}
 use Rattle.outgoing.specs.Packets.{on_wire}
 use Rattle.channel.specs.Channel.{pending_id}
@@ -16,6 +15,9 @@ use Rattle.port.specs.Memory.{state_of, pending_in}
 use Rattle.port.specs.Packets.{meaning_in}
 use Rattle.rack.specs.Steps.{Happening, event, packet, new_offer}
 use Rattle.rackclaims.specs.Wire.{is_accept}
+use Rattle.std.specs.Prelude.{Ok, Err, Result}
+use Rattle.reading.specs.declared.Message.{Message}
+use Rattle.ground.specs.declared.Refusal.{Refusal}
 
 abbrev pub means_request : Meaning → Bool
 means_request Meaning.Unsupported = false
@@ -35,14 +37,14 @@ means_good_crc Meaning.SoftReset = false
 means_good_crc Meaning.Quiet = false
 means_good_crc Meaning.Request = false
 
-abbrev pub is_request : Reading → Bool
-is_request (Reading.Message n f) = means_request (meaning_in n f)
-is_request (Reading.Refused no') = false
+abbrev pub is_request : Result Message Refusal → Bool
+is_request (Ok m) = means_request (meaning_in m.objects m.fields)
+is_request (Err no') = false
 
 -- "A GoodCRC with the pending MessageID acknowledges."
-abbrev pub acknowledges : Reading → Port → Bool
-acknowledges (Reading.Message n f) p = means_good_crc (meaning_in n f) && (pending_in p && eqb (pending_id p.channel) f.message_id)
-acknowledges (Reading.Refused no') p = false
+abbrev pub acknowledges : Result Message Refusal → Port → Bool
+acknowledges (Ok m) p = means_good_crc (meaning_in m.objects m.fields) && (pending_in p && eqb (pending_id p.channel) m.fields.message_id)
+acknowledges (Err no') p = false
 
 abbrev pub said_if : Bool → Change → Change
 said_if so change = cond so change Change.Nothing

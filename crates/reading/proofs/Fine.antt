@@ -5,11 +5,11 @@ use mathlib.Core.Bool.{true, not}
 use mathlib.Core.List.{List}
 use lib.ListN.{length}
 use borrow.Author.Tests.{ltb-false, eqb-true, not-false, le-ltb, eq-eqb}
-use Rattle.ground.specs.declared.Verdict.TheVariants.{Fine}
 use Rattle.ground.proofs.Rows.{passed, pass, spared, spare, has, hold}
 use Rattle.message.specs.Header.{objects_of}
 use Rattle.message.specs.Bytes.{is_chunked}
 use Rattle.reading.specs.Reading.{header_in, extended_in, after_header, reading_tried}
+use Rattle.std.specs.Prelude.{Ok}
 
 -- what each test in the row asks
 pub record Readable (s : List ℕ) : Type 0 where
@@ -19,7 +19,7 @@ pub record Readable (s : List ℕ) : Type 0 where
   pub chunked : extended_in s ≡ true → is_chunked (after_header s) ≡ true
   pub even : length s ≡ 2 + 4 * objects_of (header_in s)
 
-pub readable : (s : List ℕ) → reading_tried s ≡ Fine → Readable s
+pub readable : (s : List ℕ) → reading_tried s ≡ Ok tt → Readable s
 unfolding reading_tried
 readable s e =
     let short = passed _ _ _ e in
@@ -35,7 +35,7 @@ readable s e =
       even = eqb-true _ _ (not-false _ uneven.0);
     }
 
-pub fine : (s : List ℕ) → Readable s → reading_tried s ≡ Fine
+pub fine : (s : List ℕ) → Readable s → reading_tried s ≡ Ok tt
 unfolding reading_tried
 fine s r =
     pass _ _ _ (le-ltb _ _ r.least)

@@ -5,16 +5,16 @@ use mathlib.Core.Path.{◌≡◌, refl, sym, ap, ◌∙◌}
 use mathlib.Core.Bool.{true}
 use mathlib.Core.List.{List}
 use lib.ListN.{length, drop, length-drop}
-use Rattle.ground.specs.declared.Verdict.{Verdict}
-use Rattle.ground.specs.declared.Verdict.TheVariants.{Fine, Refused}
 use Rattle.message.specs.declared.Fields.{Fields}
 use Rattle.message.specs.Header.{fields_of, objects_of}
 use Rattle.message.specs.Bytes.{AreBytes, Sound, bytes_of, word_of, is_chunked}
 use Rattle.message.proofs.RoundTrip.{pack_unpack, unpack_pack, objects_pack, fields_fit}
 use Rattle.message.proofs.Bytes.{header_first, objects_rest, length_bytes, word<, two_of_word, chunked_there}
-use Rattle.reading.specs.declared.Reading.{Reading}
 use Rattle.reading.specs.Reading.{reading_tried, answer_of, read_of, part_of, extended_in}
 use Rattle.reading.proofs.Fine.{Readable, readable, fine}
+use Rattle.ground.specs.Refusals.{Verdict}
+use Rattle.reading.specs.Reading.{message_with}
+use Rattle.std.specs.Prelude.{Ok, Err}
 
 -- ---- the bytes of a sound message are read as that message
 module _ (f : Fields) (o : List ℕ) (m : Sound f o) where
@@ -30,7 +30,7 @@ module _ (f : Fields) (o : List ℕ) (m : Sound f o) where
   chunk_in : extended_in (bytes_of f o) ≡ true → is_chunked o ≡ true
   chunk_in x = m.chunked (sym (ap (λ (g : Fields). g.extended) fields_in) ∙ x)
 
-  fine_in : reading_tried (bytes_of f o) ≡ Fine
+  fine_in : reading_tried (bytes_of f o) ≡ Ok tt
   fine_in =
       fine (bytes_of f o)
       record {
@@ -42,7 +42,7 @@ module _ (f : Fields) (o : List ℕ) (m : Sound f o) where
       }
 
   -- THE CLAIM: a sound message's bytes are read as that message
-  pub read_is : read_of (bytes_of f o) ≡ Reading.Message (length o / 4) f
+  pub read_is : read_of (bytes_of f o) ≡ message_with (length o / 4) f
   unfolding read_of
   read_is = rw (fine_in, objects_in, fields_in)
 
@@ -52,12 +52,12 @@ module _ (f : Fields) (o : List ℕ) (m : Sound f o) where
   part_is = rw (fine_in) (objects_rest f o)
 
 -- ---- what is read is a sound message, of which the packet is the bytes
-answered : (v : Verdict) (h n : ℕ) (f : Fields) → answer_of v h ≡ Reading.Message n f → (v ≡ Fine) × (objects_of h ≡ n) × (fields_of h ≡ f)
-answered Fine h n f e = (refl, cc, cc)
-answered (Refused r) h n f e = (cc, cc, cc)
+answered : (v : Verdict) (h n : ℕ) (f : Fields) → answer_of v h ≡ message_with n f → (v ≡ Ok tt) × (objects_of h ≡ n) × (fields_of h ≡ f)
+answered (Ok _) h n f e = (refl, cc, cc)
+answered (Err r) h n f e = (cc, cc, cc)
 
-module _ (s : List ℕ) (b : AreBytes s) (n : ℕ) (f : Fields) (e : read_of s ≡ Reading.Message n f) where
-  told : (reading_tried s ≡ Fine) × (objects_of (word_of s) ≡ n) × (fields_of (word_of s) ≡ f)
+module _ (s : List ℕ) (b : AreBytes s) (n : ℕ) (f : Fields) (e : read_of s ≡ message_with n f) where
+  told : (reading_tried s ≡ Ok tt) × (objects_of (word_of s) ≡ n) × (fields_of (word_of s) ≡ f)
   unfolding read_of
   told = answered (reading_tried s) (word_of s) n f e
 

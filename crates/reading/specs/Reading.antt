@@ -2,12 +2,13 @@
 use Rattle.std.specs.Prelude.{ℕ, ◌+◌, ◌*◌, ◌≡◌, Bool, not, ◌&&◌, List, [], ltb, eqb, length, drop}
 use Rattle.std.specs.Borrow.{Bor}
 use Rattle.ground.specs.declared.Refusal.TheVariants.{TooShort, TooLong, WrongLength, NotChunked}
-use Rattle.ground.specs.declared.Verdict.{Verdict}
-use Rattle.ground.specs.declared.Verdict.TheVariants.{Fine, Refused}
 use Rattle.ground.specs.Refusals.{refuse_if}
 use Rattle.message.specs.Header.{fields_of, objects_of}
 use Rattle.message.specs.Bytes.{word_of, is_chunked}
-use Rattle.reading.specs.declared.Reading.{Reading}
+use Rattle.ground.specs.Refusals.{Verdict}
+use Rattle.std.specs.Prelude.{Ok, Err, Result}
+use Rattle.reading.specs.declared.Message.{Message}
+use Rattle.ground.specs.declared.Refusal.{Refusal}
 
 -- what follows the two header bytes
 abbrev pub after_header : List ℕ → List ℕ
@@ -27,24 +28,28 @@ reading_tried s =
     (refuse_if (extended_in s && ltb (length s) 4) WrongLength
     (refuse_if (extended_in s && not (is_chunked (after_header s))) NotChunked
     (refuse_if (not (eqb (length s) (2 + 4 * objects_of (header_in s)))) WrongLength
-    Fine))))
+    (Ok tt)))))
+
+-- a message of so many objects and with these fields
+abbrev pub message_with : ℕ → Fields → Result Message Refusal
+message_with objects fields = Ok record { objects = objects; fields = fields }
 
 -- the fields and the number of objects of a header whose packet there is nothing to refuse in
-abbrev pub answer_of : Verdict → ℕ → Reading
-answer_of Fine h = Reading.Message (objects_of h) (fields_of h)
-answer_of (Refused r) h = Reading.Refused r
+abbrev pub answer_of : Verdict → ℕ → Result Message Refusal
+answer_of (Ok _) h = message_with (objects_of h) (fields_of h)
+answer_of (Err r) h = Err r
 
-unfoldable pub read_of : List ℕ → Reading
+unfoldable pub read_of : List ℕ → Result Message Refusal
 read_of s = answer_of (reading_tried s) (header_in s)
 
 -- where the part that is handed back starts, and its bytes: byte 2 on, or the empty beginning where reading is refused
 abbrev pub start_of : Verdict → ℕ
-start_of Fine = 2
-start_of (Refused r) = 0
+start_of (Ok _) = 2
+start_of (Err r) = 0
 
 abbrev pub bytes_in : Verdict → List ℕ → List ℕ
-bytes_in Fine s = after_header s
-bytes_in (Refused r) s = []
+bytes_in (Ok _) s = after_header s
+bytes_in (Err r) s = []
 
 unfoldable pub part_start : List ℕ → ℕ
 part_start s = start_of (reading_tried s)

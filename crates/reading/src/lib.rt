@@ -3,57 +3,50 @@
 #![tactic(auto)]
 
 ghost use Rattle.std.specs.Prelude.{◌≡◌};
-ghost use Rattle.ground.specs.declared.Refusal.TheVariants.{TooShort, TooLong, WrongLength, NotChunked};
-ghost use Rattle.ground.specs.declared.Verdict.TheVariants.{Fine};
 ghost use Rattle.reading.specs.Reading.{Part, after_header, reading_tried, read_of};
 
 use ground::{Refusal, Verdict, refuse_if};
 use message::Fields;
 
-// What reading a packet gives.
+// What reading a packet gives, where nothing is refused: how many objects it has, and its fields.
 #[derive(Clone, Copy)]
-pub enum Reading {
-    Message { objects: u8, fields: Fields },
-    Refused(Refusal),
+pub struct Message {
+    pub objects: u8,
+    pub fields: Fields,
 }
 
 // What follows the header.
 fn after_header(s: &[u8]) -> &[u8]
     ensures { result.now ≡ after_header s.now }
 {
-    if 2 <= s.len() { &s[2..] } else { &s[..0] }
+    if 2 <= s.len() { &s[2..] } else { &[] }
 }
 
-// The tests, from the last that the paper tries to the first.
+// The tests, in the paper's order.
+#[tactic(auto, unfolding(crate::specs::Reading::reading_tried, ground::specs::Refusals::refuse_if))]
 fn tried(s: &[u8]) -> Verdict
     ensures { result ≡ reading_tried s.now }
 {
     let h = message::word(s);
-    let f = message::unpack(h);
+    let extended = message::unpack(h).extended;
     let n = s.len();
-    let under_four = f.extended & (n < 4);
-    let unchunked = f.extended & !message::chunked(after_header(s));
-    let uneven = !(n == 2 + 4 * (message::object_count(h) as usize));
-    let length = refuse_if(uneven, Refusal::WrongLength, Verdict::Fine);
-    let chunk = refuse_if(unchunked, Refusal::NotChunked, length);
-    let four = refuse_if(under_four, Refusal::WrongLength, chunk);
-    let long = refuse_if(30 < n, Refusal::TooLong, four);
-    refuse_if(n < 2, Refusal::TooShort, long)
+    refuse_if(n < 2, Refusal::TooShort)?;
+    refuse_if(30 < n, Refusal::TooLong)?;
+    refuse_if(extended & (n < 4), Refusal::WrongLength)?;
+    refuse_if(extended & !message::chunked(after_header(s)), Refusal::NotChunked)?;
+    refuse_if(n != 2 + 4 * (message::object_count(h) as usize), Refusal::WrongLength)
 }
 
 // The fields and the number of objects, or the refusal.
-pub fn read(s: &[u8]) -> Reading
+pub fn read(s: &[u8]) -> Result<Message, Refusal>
     ensures { result ≡ read_of s.now }
 {
+    tried(s)?;
     let h = message::word(s);
-    let v = tried(s);
-    match v {
-        Verdict::Fine => Reading::Message {
-            objects: message::object_count(h),
-            fields: message::unpack(h),
-        },
-        Verdict::Refused(r) => Reading::Refused(r),
-    }
+    Ok(Message {
+        objects: message::object_count(h),
+        fields: message::unpack(h),
+    })
 }
 
 // The object bytes: the caller's own slice from byte 2 on; where reading is refused, its empty
@@ -61,14 +54,5 @@ pub fn read(s: &[u8]) -> Reading
 pub fn objects(s: &[u8]) -> &[u8]
     ensures { Part s.entry result }
 {
-    let v = tried(s);
-    match v {
-        Verdict::Fine => {
-            if 2 <= s.len() {
-                return &s[2..];
-            }
-            &s[..0]
-        }
-        Verdict::Refused(_) => &s[..0],
-    }
+    if tried(s).is_ok() { &s[2..] } else { &s[..0] }
 }

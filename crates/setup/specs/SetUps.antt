@@ -3,7 +3,6 @@
 -- limits: "32 ports and a supply up to 6,400,000 units".
 use Rattle.std.specs.Prelude.{ℕ, zero, suc, Bool, true, false, ◌&&◌, [], map, leb, get_or, replicate}
 use Rattle.ground.specs.declared.Refusal.TheVariants.{BadSetUp}
-use Rattle.ground.specs.declared.Verdict.TheVariants.{Fine, Refused}
 use Rattle.offers.specs.Offers.{good_offer}
 use Rattle.port.specs.Memory.{detached_port, no_offer}
 use Rattle.slot.specs.declared.Slot.{Slot}
@@ -12,6 +11,7 @@ use Rattle.rack.specs.Ports.{most_ports, total}
 use Rattle.setup.specs.declared.Setting.{Setting}
 use Rattle.setup.specs.declared.SetUp.{SetUp}
 use Rattle.setup.specs.declared.Started.{Started}
+use Rattle.std.specs.Prelude.{Ok, Err}
 
 -- a supply and a share
 abbrev pub least : ℕ
@@ -64,8 +64,8 @@ abbrev pub no_rack : Rack
 no_rack = record { slots = replicate most_ports (record { port = detached_port no_offer; share = 0; limit = 0 }); count = 0; supply = 0 }
 
 abbrev pub judged : Bool → SetUp → Started
-judged true u = record { verdict = Fine; rack = rack_of u }
-judged false u = record { verdict = Refused BadSetUp; rack = no_rack }
+judged true u = record { verdict = Ok tt; rack = rack_of u }
+judged false u = record { verdict = Err BadSetUp; rack = no_rack }
 
 unfoldable pub accepted_set_up : SetUp → Started
 accepted_set_up u = judged (good_set_up u) u

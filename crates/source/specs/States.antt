@@ -2,7 +2,8 @@
 use Rattle.std.specs.Prelude.{ℕ, Bool, true, false, not, cond, ◌||◌, eqb}
 use Rattle.source.specs.declared.State.{State}
 use Rattle.source.specs.declared.Timer.{Timer}
-use Rattle.source.specs.declared.Timer.TheVariants.{NoTimer, SenderResponse, SourceCapability, PsHardReset}
+use Rattle.source.specs.declared.Timer.TheVariants.{SenderResponse, SourceCapability, PsHardReset}
+use Rattle.std.specs.Prelude.{Some, None, Option}
 
 abbrev pub code_of : State → ℕ
 code_of State.Detached = 0
@@ -30,29 +31,29 @@ abbrev pub listens : State → Bool
 listens s = not ((same s State.Detached || same s State.Hard) || (same s State.Default || same s State.Disabled))
 
 -- the timer of a state that waits for an answer once its message is acknowledged
-abbrev pub awaits_reply : Bool → Timer
-awaits_reply true = NoTimer
-awaits_reply false = SenderResponse
+abbrev pub awaits_reply : Bool → Option Timer
+awaits_reply true = None
+awaits_reply false = Some SenderResponse
 
 -- the timer that runs in a state, with or without a pending message
-abbrev pub running : State → Bool → Timer
+abbrev pub running : State → Bool → Option Timer
 running State.Offer pending = awaits_reply pending
 running State.Soft pending = awaits_reply pending
-running State.Discovery pending = SourceCapability
-running State.Hard pending = PsHardReset
-running State.Detached pending = NoTimer
-running State.Disabled pending = NoTimer
-running State.Judge pending = NoTimer
-running State.Accepting pending = NoTimer
-running State.Moving pending = NoTimer
-running State.Telling pending = NoTimer
-running State.Ready pending = NoTimer
-running State.Declining pending = NoTimer
-running State.Refusing pending = NoTimer
-running State.Waiting pending = NoTimer
-running State.Answering pending = NoTimer
-running State.Default pending = NoTimer
+running State.Discovery pending = Some SourceCapability
+running State.Hard pending = Some PsHardReset
+running State.Detached pending = None
+running State.Disabled pending = None
+running State.Judge pending = None
+running State.Accepting pending = None
+running State.Moving pending = None
+running State.Telling pending = None
+running State.Ready pending = None
+running State.Declining pending = None
+running State.Refusing pending = None
+running State.Waiting pending = None
+running State.Answering pending = None
+running State.Default pending = None
 
 -- "Leaving a state stops its running timer."
-abbrev pub stopped : State → State → Timer → Timer
-stopped before after runs = cond (same before after) NoTimer runs
+abbrev pub stopped : State → State → Option Timer → Option Timer
+stopped before after runs = cond (same before after) None runs

@@ -8,10 +8,10 @@ use lib.ListN.{length, take, drop, get_or, length-take, length-drop}
 use lib.Seq.{drop-cons, get_or-take}
 use Rattle.ground.specs.declared.Refusal.{Refusal}
 use Rattle.ground.specs.declared.Refusal.TheVariants.{TooShort, TooLong, WrongLength, NotChunked, NoRoom, OutOfRange, BadOffer, NotAwaited, NotInRack, BadSetUp}
-use Rattle.ground.specs.declared.Verdict.{Verdict}
-use Rattle.ground.specs.declared.Verdict.TheVariants.{Fine, Refused}
 use Rattle.ground.specs.Refusals.{number_of}
 use Rattle.tally.specs.Checksum.{mixed, mixed_all, verdict_number}
+use Rattle.ground.specs.Refusals.{Verdict}
+use Rattle.std.specs.Prelude.{Ok, Err}
 
 none_left : (l : List ℕ) → length l ≡ 0 → l ≡ []
 none_left [] e = refl
@@ -41,5 +41,5 @@ few_refusals NotInRack = omega arith
 few_refusals BadSetUp = omega arith
 
 pub few : (v : Verdict) (n : ℕ) → n ≡ verdict_number v → n < 11
-few Fine n e = omega (arith, e)
-few (Refused r) n e = omega (arith, e, few_refusals r)
+few (Ok _) n e = omega (arith, e)
+few (Err r) n e = omega (arith, e, few_refusals r)

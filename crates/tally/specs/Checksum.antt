@@ -1,7 +1,5 @@
 -- docs/REPLAY.md, "The checksum": the numbers that an answer takes in, in their order.
 use Rattle.std.specs.Prelude.{ℕ, ◌+◌, ◌*◌, ◌%◌, Bool, true, false, cond, List, [], ◌∷◌, take}
-use Rattle.ground.specs.declared.Verdict.{Verdict}
-use Rattle.ground.specs.declared.Verdict.TheVariants.{Fine, Refused}
 use Rattle.ground.specs.Refusals.{number_of}
 use Rattle.message.specs.Bytes.{word_of}
 use Rattle.outgoing.specs.declared.Packet.{Packet}
@@ -9,8 +7,9 @@ use Rattle.source.specs.declared.State.{State}
 use Rattle.source.specs.declared.Timer.{Timer}
 use Rattle.source.specs.States.{code_of}
 use Rattle.port.specs.declared.Actions.{Actions}
-use Rattle.port.specs.declared.GoodCrc.{GoodCrc}
 use Rattle.port.specs.declared.Supply.{Supply}
+use Rattle.ground.specs.Refusals.{Verdict}
+use Rattle.std.specs.Prelude.{Some, None, Ok, Err, Option}
 
 -- "sum = (sum * 16777619 + x) mod 4294967296"
 unfoldable pub mixed : ℕ → ℕ → ℕ
@@ -18,22 +17,22 @@ mixed sum x = (sum * 16777619 + x) % 4294967296
 
 -- "0, or the number of the refusal"
 abbrev pub verdict_number : Verdict → ℕ
-verdict_number Fine = 0
-verdict_number (Refused r) = number_of r
+verdict_number (Ok _) = 0
+verdict_number (Err r) = number_of r
 
-abbrev pub timer_number : Timer → ℕ
-timer_number Timer.NoTimer = 0
-timer_number Timer.SenderResponse = 1
-timer_number Timer.SourceCapability = 2
-timer_number Timer.PsHardReset = 3
+abbrev pub timer_number : Option Timer → ℕ
+timer_number None = 0
+timer_number (Some Timer.SenderResponse) = 1
+timer_number (Some Timer.SourceCapability) = 2
+timer_number (Some Timer.PsHardReset) = 3
 
-abbrev pub supply_number : Supply → ℕ
-supply_number Supply.Unchanged = 0
-supply_number Supply.Default = 255
-supply_number (Supply.Position n) = n
+abbrev pub supply_number : Option Supply → ℕ
+supply_number None = 0
+supply_number (Some Supply.Default) = 255
+supply_number (Some (Supply.Position n)) = n
 
 -- "its two bytes as a number, least byte first; 0 for none"
-unfoldable pub crc_number : GoodCrc → ℕ
+unfoldable pub crc_number : Option (List ℕ) → ℕ
 crc_number c = cond c.sent (word_of c.bytes) 0
 
 abbrev pub bit : Bool → ℕ

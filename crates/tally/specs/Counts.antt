@@ -1,7 +1,5 @@
 -- docs/REPLAY.md, "The counts": how many answers there were of each sort.
 use Rattle.std.specs.Prelude.{ℕ, ◌+◌, min, Bool, not, cond, ◌&&◌, get_or, set, replicate}
-use Rattle.ground.specs.declared.Verdict.{Verdict}
-use Rattle.ground.specs.declared.Verdict.TheVariants.{Fine, Refused}
 use Rattle.ground.specs.Refusals.{number_of}
 use Rattle.source.specs.declared.State.{State}
 use Rattle.source.specs.States.{same}
@@ -9,6 +7,8 @@ use Rattle.port.specs.declared.Actions.{Actions}
 use Rattle.tally.specs.declared.Tally.{Tally}
 use Rattle.tally.specs.declared.Sums.{Sums}
 use Rattle.tally.specs.Checksum.{mixed, verdict_number, checked}
+use Rattle.ground.specs.Refusals.{Verdict}
+use Rattle.std.specs.Prelude.{Ok, Err}
 
 -- one more, as far as the place for it goes
 abbrev pub one_more : ℕ → ℕ
@@ -41,8 +41,8 @@ sums_of t = record { accepts = t.accepts; rejects = t.rejects; hard_resets = t.h
 
 -- a set-up's answer: it is no event, and counts only where it is refused
 unfoldable pub set_up_told : Tally → Verdict → Tally
-set_up_told t Fine = record { verdicts = t.verdicts; accepts = t.accepts; rejects = t.rejects; hard_resets = t.hard_resets; checksum = mixed t.checksum 0 }
-set_up_told t (Refused r) =
+set_up_told t (Ok _) = record { verdicts = t.verdicts; accepts = t.accepts; rejects = t.rejects; hard_resets = t.hard_resets; checksum = mixed t.checksum 0 }
+set_up_told t (Err r) =
     record {
       verdicts = set t.verdicts (number_of r) (one_more (get_or t.verdicts (number_of r) 0));
       accepts = t.accepts;

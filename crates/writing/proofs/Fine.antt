@@ -8,17 +8,17 @@ use mathlib.Core.List.{List}
 use lib.ListN.{length}
 use borrow.Author.Tests.{ltb-false, lt-ltb, le-ltb, eqb-true, eq-eqb, ne_eqb, not-false}
 use Rattle.ground.specs.declared.Refusal.TheVariants.{OutOfRange}
-use Rattle.ground.specs.declared.Verdict.TheVariants.{Fine, Refused}
 use Rattle.ground.proofs.Rows.{passed, pass, refuse, here, later, neither, nor, none, spared, spare}
 use Rattle.message.specs.declared.Fields.{Fields}
 use Rattle.message.proofs.Bytes.{chunked_there}
 use Rattle.writing.specs.Writing.{Writable, writing_tried}
+use Rattle.std.specs.Prelude.{Ok, Err}
 
 fours : (n size place : ℕ) → n % 4 ≡ 0 → 2 + 4 * (n / 4) ≤ size - place → 2 + n ≤ size - place
 fours n size place e h = omega arith
 
 -- ---- the tests passed
-pub writable : (f : Fields) (o : List ℕ) (size place : ℕ) → writing_tried f o size place ≡ Fine → Writable f o size place
+pub writable : (f : Fields) (o : List ℕ) (size place : ℕ) → writing_tried f o size place ≡ Ok tt → Writable f o size place
 unfolding writing_tried
 writable f o size place e =
     let range = passed _ _ _ e in
@@ -66,7 +66,7 @@ there n h e = omega arith
 back : (n size place : ℕ) → 2 + n ≤ size - place → 2 + 4 * (n / 4) ≤ size - place
 back n size place h = omega arith
 
-pub fine : (f : Fields) (o : List ℕ) (size place : ℕ) → Writable f o size place → writing_tried f o size place ≡ Fine
+pub fine : (f : Fields) (o : List ℕ) (size place : ℕ) → Writable f o size place → writing_tried f o size place ≡ Ok tt
 unfolding writing_tried
 fine f o size place w =
     let m = w.sound in
@@ -85,6 +85,6 @@ fine f o size place w =
     refl))
 
 -- ---- the reserved revision is refused first of all
-pub reserved : (f : Fields) (o : List ℕ) (size place : ℕ) → 3 ≤ f.revision → writing_tried f o size place ≡ Refused OutOfRange
+pub reserved : (f : Fields) (o : List ℕ) (size place : ℕ) → 3 ≤ f.revision → writing_tried f o size place ≡ Err OutOfRange
 unfolding writing_tried
 reserved f o size place h = refuse _ _ _ (later _ _ (later _ _ (later _ _ (later _ _ (here _ _ (lt-ltb 2 f.revision h))))))

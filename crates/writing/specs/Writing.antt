@@ -1,13 +1,13 @@
 -- "The packet" and "Refusal numbers": what writing a message into a buffer from a place on gives. Writing tries 6, 4, 5.
 use Rattle.std.specs.Prelude.{ℕ, ◌+◌, ◌*◌, ◌-◌, ◌/◌, ◌%◌, ◌<◌, ◌≤◌, ◌≡◌, Bool, not, ◌&&◌, List, [], ◌∷◌, ltb, eqb, length}
 use Rattle.ground.specs.declared.Refusal.TheVariants.{OutOfRange, NotChunked, NoRoom}
-use Rattle.ground.specs.declared.Verdict.{Verdict}
-use Rattle.ground.specs.declared.Verdict.TheVariants.{Fine, Refused}
 use Rattle.ground.specs.Buffers.{laid}
 use Rattle.ground.specs.Refusals.{refuse_if, any_of}
 use Rattle.message.specs.declared.Fields.{Fields}
 use Rattle.message.specs.Bytes.{bytes_of, is_chunked, Sound}
-use Rattle.writing.specs.declared.Writing.{Writing}
+use Rattle.ground.specs.Refusals.{Verdict}
+use Rattle.std.specs.Prelude.{Ok, Err, Result}
+use Rattle.ground.specs.declared.Refusal.{Refusal}
 
 -- "type over 31, MessageID over 7, a role over 1, revision 11b or over, object bytes not a multiple of 4 or over 28" (n of them)
 abbrev pub out_of_range : Fields → ℕ → Bool
@@ -36,7 +36,7 @@ writing_tried f o size place =
     refuse_if (out_of_range f (length o)) OutOfRange
     (refuse_if (without_chunk f o) NotChunked
     (refuse_if (too_little_room size place (length o)) NoRoom
-    Fine))
+    (Ok tt)))
 
 -- what writing takes: a sound message, a revision other than 11b, and room from the place on
 pub record Writable (f : Fields) (o : List ℕ) (size place : ℕ) : Type 0 where
@@ -46,16 +46,16 @@ pub record Writable (f : Fields) (o : List ℕ) (size place : ℕ) : Type 0 wher
   pub room : 2 + length o ≤ size - place
 
 -- how many bytes were written of the message m, or the refusal
-abbrev pub result_of : Verdict → List ℕ → Writing
-result_of Fine m = Writing.Written (length m)
-result_of (Refused r) m = Writing.Refused r
+abbrev pub result_of : Verdict → List ℕ → Result ℕ Refusal
+result_of (Ok _) m = Ok (length m)
+result_of (Err r) m = Err r
 
 -- the buffer afterwards
 abbrev pub buffer_of : Verdict → List ℕ → ℕ → List ℕ → List ℕ
-buffer_of Fine m place buf = laid m place buf
-buffer_of (Refused r) m place buf = buf
+buffer_of (Ok _) m place buf = laid m place buf
+buffer_of (Err r) m place buf = buf
 
 -- the promise: the result, and the whole buffer afterwards
-pub record Wrote (f : Fields) (o buf : List ℕ) (place : ℕ) (r : Writing) (after : List ℕ) : Type 0 where
+pub record Wrote (f : Fields) (o buf : List ℕ) (place : ℕ) (r : Result ℕ Refusal) (after : List ℕ) : Type 0 where
   pub result : r ≡ result_of (writing_tried f o (length buf) place) (bytes_of f o)
   pub buffer : after ≡ buffer_of (writing_tried f o (length buf) place) (bytes_of f o) place buf
