@@ -7,14 +7,7 @@ ghost use Rattle.std.specs.Prelude.{◌≡◌};
 ghost use Rattle.channel.specs.Channel.{is_pending, pending_id, is_repeat, next_id, once_more, counter_after, ended, again, heard, fresh, sends};
 ghost use Rattle.channel.specs.Outcomes.{outcome_of, on_good_crc, on_expiry};
 
-use outgoing::Packet;
-
-// The MessageID of the last new packet.
-#[derive(Clone, Copy)]
-pub enum Stored {
-    Nothing,
-    Id(u8),
-}
+use outgoing::{NO_PACKET, Packet};
 
 // The message that is not yet acknowledged, and how often it has been sent again; an empty packet
 // is no message.
@@ -27,7 +20,8 @@ pub struct Pending {
 #[derive(Clone, Copy)]
 pub struct Channel {
     pub counter: u8,
-    pub stored: Stored,
+    // The MessageID of the last new packet.
+    pub stored: Option<u8>,
     pub pending: Pending,
 }
 
@@ -40,25 +34,24 @@ pub enum Outcome {
     Failed,
 }
 
-const NO_PACKET: Packet = Packet {
-    bytes: [0u8; 30],
-    length: 0,
+const NONE_PENDING: Pending = Pending {
+    packet: NO_PACKET,
+    retries: 0,
 };
 
 // The rule for a pending message that is or is not acknowledged, and may or may not be sent again.
 fn comes_to(pending: bool, acknowledged: bool, again: bool) -> Outcome
     ensures { result ≡ outcome_of pending acknowledged again }
 {
-    if pending {
-        if acknowledged {
-            return Outcome::Acknowledged;
-        }
-        if again {
-            return Outcome::Again;
-        }
-        return Outcome::Failed;
+    if !pending {
+        Outcome::NonePending
+    } else if acknowledged {
+        Outcome::Acknowledged
+    } else if again {
+        Outcome::Again
+    } else {
+        Outcome::Failed
     }
-    Outcome::NonePending
 }
 
 // The MessageID after this one.
@@ -79,27 +72,21 @@ fn once_more(retries: u8) -> u8
 fn counter_after(soft_reset: bool, pending: bool, counter: u8) -> u8
     ensures { result ≡ counter_after soft_reset pending counter }
 {
-    if soft_reset {
-        return 0;
+    match (soft_reset, pending) {
+        (true, _) => 0,
+        (false, true) => next(counter),
+        (false, false) => counter,
     }
-    if pending {
-        return next(counter);
-    }
-    counter
 }
 
 // A channel at attach: zero, none, none.
 pub fn new() -> Channel
     ensures { result ≡ fresh }
 {
-    let none = NO_PACKET;
     Channel {
         counter: 0,
-        stored: Stored::Nothing,
-        pending: Pending {
-            packet: none,
-            retries: 0,
-        },
+        stored: None,
+        pending: NONE_PENDING,
     }
 }
 
@@ -114,20 +101,14 @@ impl Channel {
     fn pending_id(self) -> u8
         ensures { result ≡ pending_id self }
     {
-        let bytes = self.pending.packet.bytes;
-        let f = message::unpack(message::word(&bytes));
-        f.message_id
+        message::unpack(message::word(&self.pending.packet.bytes)).message_id
     }
 
     // Whether a MessageID is the stored one.
     pub fn repeats(self, id: u8) -> bool
         ensures { result ≡ is_repeat self id }
     {
-        let stored = self.stored;
-        match stored {
-            Stored::Nothing => false,
-            Stored::Id(last) => last == id,
-        }
+        self.stored == Some(id)
     }
 
     // A GoodCRC with this MessageID.
@@ -153,16 +134,10 @@ impl Channel {
     pub fn ended(self) -> Channel
         ensures { result ≡ ended self }
     {
-        let counter = next(self.counter);
-        let stored = self.stored;
-        let none = NO_PACKET;
         Channel {
-            counter: counter,
-            stored: stored,
-            pending: Pending {
-                packet: none,
-                retries: 0,
-            },
+            counter: next(self.counter),
+            pending: NONE_PENDING,
+            ..self
         }
     }
 
@@ -170,16 +145,12 @@ impl Channel {
     pub fn again(self) -> Channel
         ensures { result ≡ again self }
     {
-        let retries = once_more(self.pending.retries);
-        let packet = self.pending.packet;
-        let stored = self.stored;
         Channel {
-            counter: self.counter,
-            stored: stored,
             pending: Pending {
-                packet: packet,
-                retries: retries,
+                retries: once_more(self.pending.retries),
+                ..self.pending
             },
+            ..self
         }
     }
 
@@ -188,15 +159,10 @@ impl Channel {
     pub fn heard(self, id: u8, soft_reset: bool) -> Channel
         ensures { result ≡ heard self id soft_reset }
     {
-        let counter = counter_after(soft_reset, self.is_pending(), self.counter);
-        let none = NO_PACKET;
         Channel {
-            counter: counter,
-            stored: Stored::Id(id),
-            pending: Pending {
-                packet: none,
-                retries: 0,
-            },
+            counter: counter_after(soft_reset, self.is_pending(), self.counter),
+            stored: Some(id),
+            pending: NONE_PENDING,
         }
     }
 
@@ -204,14 +170,12 @@ impl Channel {
     pub fn sends(self, m: Packet) -> Channel
         ensures { result ≡ sends self m }
     {
-        let stored = self.stored;
         Channel {
-            counter: self.counter,
-            stored: stored,
             pending: Pending {
                 packet: m,
                 retries: 0,
             },
+            ..self
         }
     }
 }

@@ -15,6 +15,12 @@ pub struct Offer {
     pub count: u8,
 }
 
+// An offer of nothing.
+pub const NO_OFFER: Offer = Offer {
+    objects: [0u32; 7],
+    count: 0,
+};
+
 // What a Request asks: the position in the offer, the voltage field there, the operating current
 // field, and the worth of the two.
 #[derive(Clone, Copy)]
@@ -23,13 +29,6 @@ pub struct Asked {
     pub voltage: u32,
     pub current: u32,
     pub worth: u32,
-}
-
-// Whether a Request fits an offer, and what it then asks.
-#[derive(Clone, Copy)]
-pub enum Fit {
-    Unfit,
-    Fits(Asked),
 }
 
 // The voltage field of a fixed supply object, in 50 mV.
@@ -168,15 +167,14 @@ fn asked_of(request: u32, o: Offer) -> Asked
     }
 }
 
-// Whether a Request, of this many objects and with this first one, fits an offer; and what it asks.
-pub fn judge(count: u8, request: u32, o: Offer) -> Fit
+// What a Request asks, of this many objects and with this first one, where it fits an offer.
+pub fn judge(count: u8, request: u32, o: Offer) -> Option<Asked>
     ensures { result ≡ fit_of count request o }
 {
-    let a = asked_of(request, o);
     if fits_offer(count, request, o) {
-        Fit::Fits(a)
+        Some(asked_of(request, o))
     } else {
-        Fit::Unfit
+        None
     }
 }
 

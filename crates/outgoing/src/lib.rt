@@ -17,6 +17,12 @@ pub struct Packet {
     pub length: u8,
 }
 
+// No message.
+pub const NO_PACKET: Packet = Packet {
+    bytes: [0u8; 30],
+    length: 0,
+};
+
 // A control message of ours.
 pub fn control(message_type: u8, message_id: u8) -> Packet
     ensures { result ≡ control_of message_type message_id }

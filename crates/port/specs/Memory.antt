@@ -14,6 +14,7 @@ use Rattle.port.specs.declared.Actions.{Actions}
 use Rattle.port.specs.declared.Port.{Port}
 use Rattle.port.specs.declared.Answer.{Answer}
 use Rattle.std.specs.Prelude.{None, Err, Option}
+use Rattle.std.specs.Prelude.{List}
 
 abbrev pub state_of : Port → State
 state_of p = p.state

@@ -25,6 +25,7 @@ use Rattle.port.specs.Parts.{channel_is, newest_is, gone_out_is, power_is, count
 use Rattle.port.specs.Memory.{state_of, cleared, facts_of, running_in, no_crc, refused_by}
 use Rattle.port.specs.Entering.{doing, quiet, enter}
 use Rattle.std.specs.Prelude.{Some, None, Ok, Option}
+use Rattle.std.specs.Prelude.{List}
 
 -- Default ready: "contract, held, count and connected cleared"
 abbrev pub with_change : Change → Port → Port

@@ -35,6 +35,7 @@ use Rattle.portclaims.proofs.Led.{turn_state, led_state, at_way}
 use Rattle.portclaims.proofs.CountsOneOn.{starts_over, zeroed, same_counter, in_over, is_soft, soft_test, soft_table, soft_heard}
 use Rattle.portclaims.proofs.Shapes.{Rule, by_attach, by_detach, by_hard_reset, by_acknowledgement, by_failure, by_sender_response, by_source_capability, by_ps_hard_reset, by_supply_ready, by_yes, by_no, by_offer_lem, fit_in, Shape, refused, idle, again as sent_again, led, heard}
 use Rattle.std.specs.Prelude.{Some, None, Option}
+use Rattle.std.specs.Prelude.{List}
 
 -- what becomes of the counter
 pub data Rests (p : Port) (q : Port) : Type 0 where

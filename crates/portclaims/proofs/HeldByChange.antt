@@ -28,6 +28,7 @@ use Rattle.portclaims.proofs.Ways as Ways
 use Rattle.portclaims.proofs.Led.{at_way}
 use Rattle.portclaims.proofs.Shapes.{Rule, by_attach, by_detach, by_hard_reset, by_acknowledgement, by_failure, by_sender_response, by_source_capability, by_ps_hard_reset, by_supply_ready, by_yes, by_no, by_offer_lem, fit_in, Shape, refused, idle, again, led, heard, shape}
 use Rattle.std.specs.Prelude.{Some, None, Option}
+use Rattle.std.specs.Prelude.{List, ℕ}
 
 with_change_lem : (c : Change) (q : Port) → (with_change c q).power.held ≡ held_after c q.power.held q.power.accepted.worth
 unfolding changed

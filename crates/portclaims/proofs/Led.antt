@@ -19,6 +19,7 @@ use Rattle.portclaims.proofs.Ways as Ways
 use Rattle.portclaims.proofs.Tables as Tables
 use Rattle.portclaims.proofs.Shapes.{is_expiry, Rule, by_attach, by_detach, by_hard_reset, by_acknowledgement, by_failure, by_sender_response, by_source_capability, by_ps_hard_reset, by_supply_ready, by_yes, by_no, by_offer_lem}
 use Rattle.std.specs.Prelude.{Some, None, Option}
+use Rattle.std.specs.Prelude.{List, ℕ}
 
 pub change_state : (p : Port) (c : Change) → state_of (with_change c p) ≡ state_of p
 change_state p Change.Nothing = refl

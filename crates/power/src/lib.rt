@@ -7,18 +7,12 @@ ghost use Rattle.power.specs.Power.{none, judges, accepts, comes_into_force, giv
 
 use offers::{Asked, Offer};
 
-// What was last agreed and put in force.
-#[derive(Clone, Copy)]
-pub enum Contract {
-    Nothing,
-    Made(Asked),
-}
-
 #[derive(Clone, Copy)]
 pub struct Power {
     // The request that was last judged, accepted once the power answer is yes.
     pub accepted: Asked,
-    pub contract: Contract,
+    // What was last agreed and put in force.
+    pub contract: Option<Asked>,
     pub held: u32,
 }
 
@@ -39,7 +33,8 @@ pub enum Standing {
     Broken,
 }
 
-const NOTHING_ASKED: Asked = Asked {
+// What is asked where nothing is.
+pub const NOTHING_ASKED: Asked = Asked {
     position: 0,
     voltage: 0,
     current: 0,
@@ -50,10 +45,9 @@ const NOTHING_ASKED: Asked = Asked {
 pub fn new() -> Power
     ensures { result ≡ none }
 {
-    let a = NOTHING_ASKED;
     Power {
-        accepted: a,
-        contract: Contract::Nothing,
+        accepted: NOTHING_ASKED,
+        contract: None,
         held: 0,
     }
 }
@@ -63,46 +57,38 @@ impl Power {
     pub fn judges(self, a: Asked) -> Power
         ensures { result ≡ judges self a }
     {
-        let contract = self.contract;
         Power {
             accepted: a,
-            contract: contract,
-            held: self.held,
+            ..self
         }
     }
 
     fn accepts(self) -> Power
         ensures { result ≡ accepts self }
     {
-        let held = ground::larger(self.held, self.accepted.worth);
-        let a = self.accepted;
-        let contract = self.contract;
         Power {
-            accepted: a,
-            contract: contract,
-            held: held,
+            held: ground::larger(self.held, self.accepted.worth),
+            ..self
         }
     }
 
     fn comes_into_force(self) -> Power
         ensures { result ≡ comes_into_force self }
     {
-        let a = self.accepted;
         Power {
-            accepted: a,
-            contract: Contract::Made(a),
+            contract: Some(self.accepted),
             held: self.accepted.worth,
+            ..self
         }
     }
 
     fn gives_up(self) -> Power
         ensures { result ≡ gives_up self }
     {
-        let a = self.accepted;
         Power {
-            accepted: a,
-            contract: Contract::Nothing,
+            contract: None,
             held: 0,
+            ..self
         }
     }
 
@@ -122,10 +108,9 @@ impl Power {
     pub fn standing(self, o: Offer) -> Standing
         ensures { result ≡ standing_of self.contract o }
     {
-        let contract = self.contract;
-        match contract {
-            Contract::Nothing => Standing::NoContract,
-            Contract::Made(a) => by_offer(offers::honoured(a, o)),
+        match self.contract {
+            None => Standing::NoContract,
+            Some(a) => by_offer(offers::honoured(a, o)),
         }
     }
 }

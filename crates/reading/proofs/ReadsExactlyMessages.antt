@@ -15,6 +15,9 @@ use Rattle.reading.proofs.Fine.{Readable, readable, fine}
 use Rattle.ground.specs.Refusals.{Verdict}
 use Rattle.reading.specs.Reading.{message_with}
 use Rattle.std.specs.Prelude.{Ok, Err}
+use Rattle.std.specs.Prelude.{Result}
+use Rattle.reading.specs.declared.Message.{Message}
+use Rattle.ground.specs.declared.Refusal.{Refusal}
 
 -- ---- the bytes of a sound message are read as that message
 module _ (f : Fields) (o : List ℕ) (m : Sound f o) where
@@ -52,8 +55,20 @@ module _ (f : Fields) (o : List ℕ) (m : Sound f o) where
   part_is = rw (fine_in) (objects_rest f o)
 
 -- ---- what is read is a sound message, of which the packet is the bytes
+-- what a message says, to take one equation of two messages apart
+abbrev objects_in_it : Result Message Refusal → ℕ
+objects_in_it (Ok m) = m.objects
+objects_in_it (Err r) = 0
+
+abbrev fields_in_it : Fields → Result Message Refusal → Fields
+fields_in_it none (Ok m) = m.fields
+fields_in_it none (Err r) = none
+
+pub same_message : (m n : ℕ) (f g : Fields) → message_with m f ≡ message_with n g → (m ≡ n) × (f ≡ g)
+same_message m n f g e = (ap objects_in_it e, ap (fields_in_it f) e)
+
 answered : (v : Verdict) (h n : ℕ) (f : Fields) → answer_of v h ≡ message_with n f → (v ≡ Ok tt) × (objects_of h ≡ n) × (fields_of h ≡ f)
-answered (Ok _) h n f e = (refl, cc, cc)
+answered (Ok _) h n f e = let same = same_message _ _ _ _ e in (refl, same.0, same.1)
 answered (Err r) h n f e = (cc, cc, cc)
 
 module _ (s : List ℕ) (b : AreBytes s) (n : ℕ) (f : Fields) (e : read_of s ≡ message_with n f) where

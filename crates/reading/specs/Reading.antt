@@ -4,6 +4,7 @@ use Rattle.std.specs.Borrow.{Bor}
 use Rattle.ground.specs.declared.Refusal.TheVariants.{TooShort, TooLong, WrongLength, NotChunked}
 use Rattle.ground.specs.Refusals.{refuse_if}
 use Rattle.message.specs.Header.{fields_of, objects_of}
+use Rattle.message.specs.declared.Fields.{Fields}
 use Rattle.message.specs.Bytes.{word_of, is_chunked}
 use Rattle.ground.specs.Refusals.{Verdict}
 use Rattle.std.specs.Prelude.{Ok, Err, Result}

@@ -38,6 +38,7 @@ fn tried(s: &[u8]) -> Verdict
 }
 
 // The fields and the number of objects, or the refusal.
+#[tactic(auto, unfolding(crate::specs::Reading::read_of))]
 pub fn read(s: &[u8]) -> Result<Message, Refusal>
     ensures { result ≡ read_of s.now }
 {
@@ -54,5 +55,8 @@ pub fn read(s: &[u8]) -> Result<Message, Refusal>
 pub fn objects(s: &[u8]) -> &[u8]
     ensures { Part s.entry result }
 {
-    if tried(s).is_ok() { &s[2..] } else { &s[..0] }
+    match tried(s) {
+        Ok(()) => &s[2..],
+        Err(_) => &s[..0],
+    }
 }

@@ -3,21 +3,12 @@
 #![tactic(auto)]
 
 ghost use Rattle.std.specs.Prelude.{◌+◌, ◌-◌, ◌≤◌, ◌≡◌, ◌++◌, length};
-ghost use Rattle.ground.specs.declared.Refusal.TheVariants.{OutOfRange, NotChunked, NoRoom};
-ghost use Rattle.ground.specs.declared.Verdict.TheVariants.{Fine};
 ghost use Rattle.ground.specs.Buffers.{over, laid};
 ghost use Rattle.message.specs.Bytes.{two_bytes, bytes_of};
 ghost use Rattle.writing.specs.Writing.{Wrote, Writable, out_of_range, without_chunk, too_little_room, writing_tried};
 
 use ground::{Refusal, Verdict, refuse_if};
 use message::Fields;
-
-// What writing a message comes to: how many bytes were written, or the refusal.
-#[derive(Clone, Copy)]
-pub enum Writing {
-    Written(usize),
-    Refused(Refusal),
-}
 
 fn out_of_range(f: Fields, n: usize) -> bool
     ensures { result ≡ out_of_range f n }
@@ -27,7 +18,7 @@ fn out_of_range(f: Fields, n: usize) -> bool
         | (1 < f.power_role)
         | (1 < f.data_role)
         | (2 < f.revision)
-        | !(n % 4 == 0)
+        | (n % 4 != 0)
         | (28 < n)
 }
 
@@ -40,23 +31,18 @@ fn without_chunk(f: Fields, objects: &[u8]) -> bool
 fn too_little_room(size: usize, place: usize, n: usize) -> bool
     ensures { result ≡ too_little_room size place n }
 {
-    if size < place {
-        return true;
-    }
-    size - place < 2 + 4 * (n / 4)
+    (size < place) || (size - place < 2 + 4 * (n / 4))
 }
 
-// The tests, from the last that the paper tries to the first.
+// The tests, in the paper's order.
+#[tactic(auto, unfolding(crate::specs::Writing::writing_tried, ground::specs::Refusals::refuse_if))]
 fn tried(f: Fields, objects: &[u8], size: usize, place: usize) -> Verdict
     ensures { result ≡ writing_tried f objects.now size place }
 {
     let n = objects.len();
-    let range = out_of_range(f, n);
-    let chunk = without_chunk(f, objects);
-    let room = too_little_room(size, place, n);
-    let fits = refuse_if(room, Refusal::NoRoom, Verdict::Fine);
-    let chunked = refuse_if(chunk, Refusal::NotChunked, fits);
-    refuse_if(range, Refusal::OutOfRange, chunked)
+    refuse_if(out_of_range(f, n), Refusal::OutOfRange)?;
+    refuse_if(without_chunk(f, objects), Refusal::NotChunked)?;
+    refuse_if(too_little_room(size, place, n), Refusal::NoRoom)
 }
 
 // The header writer: two bytes at the front of a part.
@@ -94,17 +80,11 @@ fn put_at(f: Fields, objects: &[u8], buf: &mut [u8], place: usize)
     put_message(&mut buf[place..], message::pack(f, n), objects);
 }
 
-// Writes a message from the place on, or refuses and changes no byte.
-pub fn write(f: Fields, objects: &[u8], buf: &mut [u8], place: usize) -> Writing
+// Writes a message from the place on, and says how many bytes it has; or refuses and changes no byte.
+pub fn write(f: Fields, objects: &[u8], buf: &mut [u8], place: usize) -> Result<usize, Refusal>
     ensures { Wrote f objects.now buf.old place result buf.new }
 {
-    let v = tried(f, objects, buf.len(), place);
-    match v {
-        Verdict::Fine => {
-            let n = 2 + objects.len();
-            put_at(f, objects, buf, place);
-            Writing::Written(n)
-        }
-        Verdict::Refused(r) => Writing::Refused(r),
-    }
+    tried(f, objects, buf.len(), place)?;
+    put_at(f, objects, buf, place);
+    Ok(2 + objects.len())
 }
