@@ -98,6 +98,7 @@ impl Channel {
     }
 
     // The MessageID of the pending message.
+    #[tactic(auto, unfolding(crate::specs::Channel::pending_id))]
     fn pending_id(self) -> u8
         ensures { result ≡ pending_id self }
     {
@@ -105,6 +106,7 @@ impl Channel {
     }
 
     // Whether a MessageID is the stored one.
+    #[tactic(auto, unfolding(crate::specs::Channel::is_repeat))]
     pub fn repeats(self, id: u8) -> bool
         ensures { result ≡ is_repeat self id }
     {
@@ -112,6 +114,7 @@ impl Channel {
     }
 
     // A GoodCRC with this MessageID.
+    #[tactic(auto, unfolding(crate::specs::Outcomes::on_good_crc))]
     pub fn good_crc(self, id: u8) -> Outcome
         ensures { result ≡ on_good_crc self id }
     {
@@ -123,6 +126,7 @@ impl Channel {
     }
 
     // The acknowledgement timer.
+    #[tactic(auto, unfolding(crate::specs::Outcomes::on_expiry))]
     pub fn expired(self) -> Outcome
         ensures { result ≡ on_expiry self }
     {
@@ -131,6 +135,7 @@ impl Channel {
 
     // The pending message is acknowledged, has failed or is dropped: nothing is pending, and the
     // counter goes one on.
+    #[tactic(auto, unfolding(crate::specs::Channel::ended))]
     pub fn ended(self) -> Channel
         ensures { result ≡ ended self }
     {
@@ -142,6 +147,7 @@ impl Channel {
     }
 
     // The pending message goes out again.
+    #[tactic(auto, unfolding(crate::specs::Channel::again))]
     pub fn again(self) -> Channel
         ensures { result ≡ again self }
     {
@@ -156,6 +162,7 @@ impl Channel {
 
     // A new packet is heard: a pending message is dropped, and the packet's MessageID stored; for a
     // Soft_Reset the counter is then 0.
+    #[tactic(auto, unfolding(crate::specs::Channel::heard))]
     pub fn heard(self, id: u8, soft_reset: bool) -> Channel
         ensures { result ≡ heard self id soft_reset }
     {
@@ -167,6 +174,7 @@ impl Channel {
     }
 
     // A message goes out for the first time.
+    #[tactic(auto, unfolding(crate::specs::Channel::sends))]
     pub fn sends(self, m: Packet) -> Channel
         ensures { result ≡ sends self m }
     {

@@ -10,6 +10,7 @@ use source::{Heard, Lead, State, Way};
 mod rules;
 
 // Where a new packet leads a state.
+#[tactic(auto, unfolding(crate::specs::Packets::on_packet))]
 pub fn packet_leads(s: State, h: Heard) -> Lead
     ensures { result ≡ on_packet s h }
 {

@@ -78,6 +78,7 @@ fn has_object(o: Offer, position: u8) -> bool
 }
 
 // The object at a position, counted from 1; zero where no object can be.
+#[tactic(auto, unfolding(crate::specs::Offers::object_at))]
 fn object_at(o: Offer, position: u8) -> u32
     ensures { result ≡ object_at o position }
 {
@@ -92,6 +93,7 @@ fn object_at(o: Offer, position: u8) -> u32
 }
 
 // Whether an object may stand in an offer of a port with this limit.
+#[tactic(auto, unfolding(crate::specs::Offers::good_object))]
 fn good_object(limit: u32, x: u32) -> bool
     ensures { result ≡ good_object limit x }
 {
@@ -122,6 +124,7 @@ fn good_objects(limit: u32, objects: [u32; 7], n: usize) -> bool
 }
 
 // Whether an offer is good for a port with this limit.
+#[tactic(auto, unfolding(crate::specs::Offers::good_offer))]
 pub fn good(limit: u32, o: Offer) -> bool
     ensures { result ≡ good_offer limit o }
 {
@@ -142,6 +145,7 @@ pub fn good(limit: u32, o: Offer) -> bool
 
 // Whether a Request of this many objects fits an offer. With capability mismatch set its maximum may
 // be over what is offered; what it draws, the operating current, may not.
+#[tactic(auto, unfolding(crate::specs::Requests::fits))]
 fn fits_offer(count: u8, request: u32, o: Offer) -> bool
     ensures { result ≡ fits count request o }
 {
@@ -153,6 +157,7 @@ fn fits_offer(count: u8, request: u32, o: Offer) -> bool
 }
 
 // What a Request asks of an offer that it fits.
+#[tactic(auto, unfolding(crate::specs::Requests::asked))]
 fn asked_of(request: u32, o: Offer) -> Asked
     ensures { result ≡ asked request o }
 {
@@ -168,6 +173,7 @@ fn asked_of(request: u32, o: Offer) -> Asked
 }
 
 // What a Request asks, of this many objects and with this first one, where it fits an offer.
+#[tactic(auto, unfolding(crate::specs::Requests::fit_of))]
 pub fn judge(count: u8, request: u32, o: Offer) -> Option<Asked>
     ensures { result ≡ fit_of count request o }
 {
@@ -180,6 +186,7 @@ pub fn judge(count: u8, request: u32, o: Offer) -> Option<Asked>
 
 // Whether an offer still has what was agreed: the same voltage at its position, and at least its
 // current.
+#[tactic(auto, unfolding(crate::specs::Requests::is_honoured))]
 pub fn honoured(a: Asked, o: Offer) -> bool
     ensures { result ≡ is_honoured a o }
 {

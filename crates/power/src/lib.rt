@@ -93,6 +93,7 @@ impl Power {
     }
 
     // The power after a change.
+    #[tactic(auto, unfolding(crate::specs::Power::changed))]
     pub fn changed(self, c: Change) -> Power
         ensures { result ≡ changed c self }
     {
@@ -105,6 +106,7 @@ impl Power {
     }
 
     // How the contract stands to an offer.
+    #[tactic(auto, unfolding(crate::specs::Power::standing_of))]
     pub fn standing(self, o: Offer) -> Standing
         ensures { result ≡ standing_of self.contract o }
     {

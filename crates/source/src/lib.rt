@@ -233,6 +233,7 @@ fn when_supply_ready(s: State) -> Change
 }
 
 // What happens to held power when a stimulus leads a state on.
+#[tactic(auto, unfolding(crate::specs::Changes::change_of))]
 pub fn change(s: State, e: Stimulus) -> Change
     ensures { result ≡ change_of s e }
 {

@@ -10,6 +10,7 @@ use source::{Facts, Lead, State, Stimulus, Way};
 mod rules;
 
 // Where a stimulus leads a state.
+#[tactic(auto, unfolding(crate::specs::Leads::leads))]
 pub fn leads(s: State, e: Stimulus, f: Facts) -> Lead
     ensures { result ≡ leads s e f }
 {

@@ -31,7 +31,7 @@ fn without_chunk(f: Fields, objects: &[u8]) -> bool
 fn too_little_room(size: usize, place: usize, n: usize) -> bool
     ensures { result ≡ too_little_room size place n }
 {
-    (size < place) || (size - place < 2 + 4 * (n / 4))
+    size < place || size - place < 2 + 4 * (n / 4)
 }
 
 // The tests, in the paper's order.

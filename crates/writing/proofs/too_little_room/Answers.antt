@@ -7,6 +7,6 @@ pub returns-then-size-place : goal.returns-then-size-place
 unfolding any_of
 returns-then-size-place c = rw (lt-ltb _ _ c.if-size-place.true)
 
-pub returns : goal.returns
+pub returns-else-size-place : goal.returns-else-size-place
 unfolding any_of
-returns c = rw (le-ltb _ _ c.if-size-place.false, or-false)
+returns-else-size-place c = rw (le-ltb _ _ c.if-size-place.false, or-false)
