@@ -5,31 +5,23 @@
 ghost use Rattle.std.specs.Prelude.{◌≡◌};
 ghost use Rattle.hearing.specs.Packets.{on_packet};
 
-use source::{Heard, Lead, State, Way};
+use source::{Heard, State, Way};
 
 mod rules;
 
 // Where a new packet leads a state.
 #[tactic(auto, unfolding(crate::specs::Packets::on_packet))]
-pub fn packet_leads(s: State, h: Heard) -> Lead
+pub fn packet_leads(s: State, h: Heard) -> Option<Way>
     ensures { result ≡ on_packet s h }
 {
     match s {
-        State::Detached => Lead::Refuse,
-        State::Offer => Lead::To(rules::awaiting(h)),
-        State::Discovery => Lead::To(rules::awaiting(h)),
-        State::Disabled => Lead::Refuse,
-        State::Judge => Lead::To(rules::answered(h)),
-        State::Accepting => Lead::To(Way::Hard),
-        State::Moving => Lead::To(Way::Hard),
-        State::Telling => Lead::To(Way::Hard),
-        State::Ready => Lead::To(rules::at_rest(h)),
-        State::Declining => Lead::To(rules::answered(h)),
-        State::Refusing => Lead::To(rules::answered(h)),
-        State::Waiting => Lead::To(rules::waited(h)),
-        State::Soft => Lead::To(rules::resetting(h)),
-        State::Answering => Lead::To(rules::answering(h)),
-        State::Hard => Lead::Refuse,
-        State::Default => Lead::Refuse,
+        State::Offer | State::Discovery => Some(rules::awaiting(h)),
+        State::Judge | State::Declining | State::Refusing => Some(rules::answered(h)),
+        State::Accepting | State::Moving | State::Telling => Some(Way::Hard),
+        State::Ready => Some(rules::at_rest(h)),
+        State::Waiting => Some(rules::waited(h)),
+        State::Soft => Some(rules::resetting(h)),
+        State::Answering => Some(rules::answering(h)),
+        State::Detached | State::Disabled | State::Hard | State::Default => None,
     }
 }

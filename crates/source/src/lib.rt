@@ -12,7 +12,7 @@ ghost use Rattle.source.specs.Changes.{change_of, when_acknowledged, when_supply
 use power::{Change, Standing};
 
 // The sixteen states, by the paper's names.
-#[derive(Clone, Copy)]
+#[derive(Clone, Copy, PartialEq, Eq)]
 pub enum State {
     Detached,
     Offer,
@@ -33,9 +33,8 @@ pub enum State {
 }
 
 // The timers that are started and stopped.
-#[derive(Clone, Copy)]
+#[derive(Clone, Copy, PartialEq, Eq)]
 pub enum Timer {
-    NoTimer,
     SenderResponse,
     SourceCapability,
     PsHardReset,
@@ -84,14 +83,7 @@ pub struct Facts {
     pub standing: Standing,
 }
 
-// Where the rules lead: nowhere, which is refusal 8, or some way on.
-#[derive(Clone, Copy)]
-pub enum Lead {
-    Refuse,
-    To(Way),
-}
-
-// A way on: no further, on in the same state once the offer or the Soft_Reset is acknowledged, or into
+// Where the rules lead, unless nowhere, which is refusal 8: no further, on in the same state once the offer or the Soft_Reset is acknowledged, or into
 // a state. Hard is entered with a signal, or without one where a Hard Reset was heard.
 #[derive(Clone, Copy)]
 pub enum Way {
@@ -117,35 +109,18 @@ pub enum Way {
     Detached,
 }
 
-// A number for each state, to tell states apart by.
+// A number for each state.
 pub fn code_of(s: State) -> u8
     ensures { result ≡ code_of s }
 {
-    match s {
-        State::Detached => 0,
-        State::Offer => 1,
-        State::Discovery => 2,
-        State::Disabled => 3,
-        State::Judge => 4,
-        State::Accepting => 5,
-        State::Moving => 6,
-        State::Telling => 7,
-        State::Ready => 8,
-        State::Declining => 9,
-        State::Refusing => 10,
-        State::Waiting => 11,
-        State::Soft => 12,
-        State::Answering => 13,
-        State::Hard => 14,
-        State::Default => 15,
-    }
+    s as u8
 }
 
 // Whether a state is this one.
 pub fn is(s: State, t: State) -> bool
     ensures { result ≡ same s t }
 {
-    code_of(s) == code_of(t)
+    s == t
 }
 
 // Whether the power rule is asked: the state is Judge.
@@ -159,65 +134,49 @@ pub fn judging(s: State) -> bool
 pub fn listens(s: State) -> bool
     ensures { result ≡ listens s }
 {
-    let deaf = is(s, State::Detached) | is(s, State::Hard);
-    let reset = is(s, State::Default) | is(s, State::Disabled);
-    !(deaf | reset)
+    !matches!(
+        s,
+        State::Detached | State::Hard | State::Default | State::Disabled
+    )
 }
 
 // Once its message is acknowledged, a state waits for the answer.
-fn awaits_reply(pending: bool) -> Timer
+fn awaits_reply(pending: bool) -> Option<Timer>
     ensures { result ≡ awaits_reply pending }
 {
     if pending {
-        Timer::NoTimer
+        None
     } else {
-        Timer::SenderResponse
+        Some(Timer::SenderResponse)
     }
 }
 
 // The timer that runs in a state, with or without a pending message.
-pub fn running(s: State, pending: bool) -> Timer
+pub fn running(s: State, pending: bool) -> Option<Timer>
     ensures { result ≡ running s pending }
 {
     match s {
-        State::Detached => Timer::NoTimer,
-        State::Offer => awaits_reply(pending),
-        State::Discovery => Timer::SourceCapability,
-        State::Disabled => Timer::NoTimer,
-        State::Judge => Timer::NoTimer,
-        State::Accepting => Timer::NoTimer,
-        State::Moving => Timer::NoTimer,
-        State::Telling => Timer::NoTimer,
-        State::Ready => Timer::NoTimer,
-        State::Declining => Timer::NoTimer,
-        State::Refusing => Timer::NoTimer,
-        State::Waiting => Timer::NoTimer,
-        State::Soft => awaits_reply(pending),
-        State::Answering => Timer::NoTimer,
-        State::Hard => Timer::PsHardReset,
-        State::Default => Timer::NoTimer,
+        State::Offer | State::Soft => awaits_reply(pending),
+        State::Discovery => Some(Timer::SourceCapability),
+        State::Hard => Some(Timer::PsHardReset),
+        _ => None,
     }
 }
 
 // Leaving a state stops the timer that runs in it.
-pub fn stopped(before: State, after: State, runs: Timer) -> Timer
+pub fn stopped(before: State, after: State, runs: Option<Timer>) -> Option<Timer>
     ensures { result ≡ stopped before after runs }
 {
-    if is(before, after) {
-        Timer::NoTimer
-    } else {
-        runs
-    }
+    if is(before, after) { None } else { runs }
 }
 
 // PS_RDY is acknowledged: what was accepted is in force.
 fn when_acknowledged(s: State) -> Change
     ensures { result ≡ when_acknowledged s }
 {
-    if is(s, State::Telling) {
-        Change::InForce
-    } else {
-        Change::Nothing
+    match s {
+        State::Telling => Change::InForce,
+        _ => Change::Nothing,
     }
 }
 
@@ -225,10 +184,9 @@ fn when_acknowledged(s: State) -> Change
 fn when_supply_ready(s: State) -> Change
     ensures { result ≡ when_supply_ready s }
 {
-    if is(s, State::Default) {
-        Change::GivenUp
-    } else {
-        Change::Nothing
+    match s {
+        State::Default => Change::GivenUp,
+        _ => Change::Nothing,
     }
 }
 
@@ -238,17 +196,10 @@ pub fn change(s: State, e: Stimulus) -> Change
     ensures { result ≡ change_of s e }
 {
     match e {
-        Stimulus::Attach => Change::Nothing,
         Stimulus::Detach => Change::GivenUp,
-        Stimulus::HardReset => Change::Nothing,
         Stimulus::Acknowledged => when_acknowledged(s),
-        Stimulus::Failed => Change::Nothing,
-        Stimulus::SenderResponse => Change::Nothing,
-        Stimulus::SourceCapability => Change::Nothing,
-        Stimulus::PsHardReset => Change::Nothing,
         Stimulus::SupplyReady => when_supply_ready(s),
-        Stimulus::NewOffer => Change::Nothing,
         Stimulus::Yes => Change::Accepted,
-        Stimulus::No => Change::Nothing,
+        _ => Change::Nothing,
     }
 }

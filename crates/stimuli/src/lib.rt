@@ -5,13 +5,13 @@
 ghost use Rattle.std.specs.Prelude.{◌≡◌};
 ghost use Rattle.stimuli.specs.Leads.{leads};
 
-use source::{Facts, Lead, State, Stimulus, Way};
+use source::{Facts, State, Stimulus, Way};
 
 mod rules;
 
 // Where a stimulus leads a state.
 #[tactic(auto, unfolding(crate::specs::Leads::leads))]
-pub fn leads(s: State, e: Stimulus, f: Facts) -> Lead
+pub fn leads(s: State, e: Stimulus, f: Facts) -> Option<Way>
     ensures { result ≡ leads s e f }
 {
     let contract = f.standing;
@@ -26,7 +26,7 @@ pub fn leads(s: State, e: Stimulus, f: Facts) -> Lead
         Stimulus::PsHardReset => rules::on_ps_hard_reset(s),
         Stimulus::SupplyReady => rules::on_supply_ready(s),
         Stimulus::NewOffer => rules::on_new_offer(s),
-        Stimulus::Yes => rules::on_answer(s, Lead::To(Way::Accepting)),
-        Stimulus::No => rules::on_answer(s, Lead::To(Way::Refusing)),
+        Stimulus::Yes => rules::on_answer(s, Some(Way::Accepting)),
+        Stimulus::No => rules::on_answer(s, Some(Way::Refusing)),
     }
 }
