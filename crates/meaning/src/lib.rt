@@ -6,7 +6,7 @@ ghost use Rattle.std.specs.Prelude.{◌≡◌, ◌<◌, ◌+◌};
 ghost use Rattle.meaning.specs.Meaning.{kind_of, first_of, entry_of, meaning_of};
 
 // The three kinds of messages.
-#[derive(Clone, Copy)]
+#[derive(Clone, Copy, PartialEq, Eq)]
 pub enum Kind {
     Control,
     Data,
@@ -14,7 +14,7 @@ pub enum Kind {
 }
 
 // What the states go by. A reply is an Accept, Reject, PS_RDY or Wait.
-#[derive(Clone, Copy)]
+#[derive(Clone, Copy, PartialEq, Eq)]
 pub enum Meaning {
     Unsupported,
     GoodCrc,

@@ -1,5 +1,5 @@
 -- "The port's memory and its actions": the memory at attach, what the states ask of it, and an answer without actions.
-use Rattle.std.specs.Prelude.{ℕ, Bool, false, [], ◌∷◌, leb, replicate}
+use Rattle.std.specs.Prelude.{ℕ, Bool, false, leb, replicate}
 use Rattle.ground.specs.declared.Refusal.{Refusal}
 use Rattle.offers.specs.declared.Offer.{Offer}
 use Rattle.outgoing.specs.Packets.{no_packet}
@@ -26,7 +26,7 @@ no_offer = record { objects = replicate 7 0; count = 0 }
 abbrev pub detached_port : Offer → Port
 detached_port newest =
     record {
-      phase = record { state = State.Detached };
+      state = State.Detached;
       channel = fresh;
       newest = newest;
       gone_out = false;
@@ -62,7 +62,7 @@ abbrev pub running_in : Port → Option Timer
 running_in p = running (state_of p) (pending_in p)
 
 abbrev pub no_crc : Option (List ℕ)
-no_crc = record { sent = false; bytes = 0 ∷ (0 ∷ []) }
+no_crc = None
 
 abbrev pub no_actions : Actions
 no_actions = record { good_crc = no_crc; stop = None; transmit = no_packet; hard_reset = false; supply = None; start = None }

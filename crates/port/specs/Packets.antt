@@ -68,7 +68,7 @@ is_soft_reset Meaning.Request = false
 
 -- the GoodCRC with which a packet is answered
 abbrev pub crc_for : Fields → Option (List ℕ)
-crc_for f = record { sent = true; bytes = bytes_of (good_crc_packet f) [] }
+crc_for f = Some (bytes_of (good_crc_packet f) [])
 
 -- "a pending message is dropped (counter plus one), the MessageID is stored, connected is set"
 abbrev pub hearing : Port → ℕ → Bool → Port

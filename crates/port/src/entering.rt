@@ -7,15 +7,10 @@ ghost use Rattle.source.specs.declared.State.{State};
 ghost use Rattle.source.specs.declared.Way.{Way};
 ghost use Rattle.power.specs.Power.{judges, nothing_asked};
 
-use crate::{Entered, Phase, Port, Supply};
+use crate::{Entered, Port, Supply};
 use offers::Asked;
-use outgoing::Packet;
+use outgoing::{NO_PACKET, Packet};
 use source::{State, Timer, Way};
-
-const NO_PACKET: Packet = Packet {
-    bytes: [0u8; 30],
-    length: 0,
-};
 
 const SOURCE_CAPABILITIES: u8 = 1;
 
@@ -38,29 +33,24 @@ fn one_offer(count: u8) -> u8
 
 impl Port {
     // The port with nothing done but perhaps a timer started.
-    pub(crate) fn starts(self, t: Timer) -> Entered
+    pub(crate) fn starts(self, t: Option<Timer>) -> Entered
         ensures { result ≡ starts t self }
     {
-        let none = NO_PACKET;
         Entered {
             port: self,
-            transmit: none,
+            transmit: NO_PACKET,
             hard_reset: false,
-            supply: Supply::Unchanged,
+            supply: None,
             start: t,
         }
     }
 
-    fn supplies(self, x: Supply) -> Entered
+    fn supplies(self, x: Option<Supply>) -> Entered
         ensures { result ≡ supplies x self }
     {
-        let none = NO_PACKET;
         Entered {
-            port: self,
-            transmit: none,
-            hard_reset: false,
             supply: x,
-            start: Timer::NoTimer,
+            ..self.starts(None)
         }
     }
 
@@ -68,26 +58,20 @@ impl Port {
     fn transmits(self, m: Packet) -> Entered
         ensures { result ≡ transmits m self }
     {
-        let c = self.channel;
-        let channel = c.sends(m);
-        let mut p = self;
-        p.channel = channel;
+        let sending = Port {
+            channel: self.channel.sends(m),
+            ..self
+        };
         Entered {
-            port: p,
             transmit: m,
-            hard_reset: false,
-            supply: Supply::Unchanged,
-            start: Timer::NoTimer,
+            ..sending.starts(None)
         }
     }
 
     fn to(self, s: State) -> Port
         ensures { result ≡ to s self }
     {
-        let phase = Phase { state: s };
-        let mut p = self;
-        p.phase = phase;
-        p
+        Port { state: s, ..self }
     }
 
     // A control message goes out from a state.
@@ -95,8 +79,7 @@ impl Port {
         ensures { result ≡ tells message_type (to s self) }
     {
         let m = outgoing::control(message_type, self.channel.counter);
-        let p = self.to(s);
-        p.transmits(m)
+        self.to(s).transmits(m)
     }
 
     // The newest offer becomes the last, and goes out.
@@ -104,101 +87,104 @@ impl Port {
         ensures { result ≡ transmits (capabilities self) (to State.Offer (offering self)) }
     {
         let o = self.newest;
-        let objects = o.objects;
-        let count = one_offer(self.count);
-        let m = outgoing::with_objects(SOURCE_CAPABILITIES, self.channel.counter, objects, o.count);
-        let mut p = self.to(State::Offer);
-        p.last = o;
-        p.gone_out = true;
-        p.count = count;
-        p.transmits(m)
+        let counter = self.channel.counter;
+        let m = outgoing::with_objects(SOURCE_CAPABILITIES, counter, o.objects, o.count);
+        let offering = Port {
+            state: State::Offer,
+            last: o,
+            gone_out: true,
+            count: one_offer(self.count),
+            ..self
+        };
+        offering.transmits(m)
     }
 
     fn unchannelled(self) -> Port
         ensures { result ≡ unchannelled self }
     {
-        let channel = channel::new();
-        let mut p = self;
-        p.channel = channel;
-        p
+        Port {
+            channel: channel::new(),
+            ..self
+        }
     }
 
     // Hard: pending dropped, counter 0, stored cleared, signal or not, start PSHardReset.
     fn hardened(self, signal: bool) -> Entered
         ensures { result ≡ hardened signal self }
     {
-        let q = self.unchannelled();
-        let p = q.to(State::Hard);
-        let none = NO_PACKET;
+        let hard = self.unchannelled().to(State::Hard);
         Entered {
-            port: p,
-            transmit: none,
             hard_reset: signal,
-            supply: Supply::Unchanged,
-            start: Timer::PsHardReset,
+            ..hard.starts(Some(Timer::PsHardReset))
         }
     }
 
     // The offer is acknowledged: someone is there.
+    #[tactic(auto, unfolding(crate::specs::Entering::enter))]
     fn offered(self) -> Entered
         ensures { result ≡ enter Way.Offered nothing_asked self }
     {
-        let mut p = self;
-        p.count = 0;
-        p.connected = true;
-        p.starts(Timer::SenderResponse)
+        let heard = Port {
+            count: 0,
+            connected: true,
+            ..self
+        };
+        heard.starts(Some(Timer::SenderResponse))
     }
 
     fn judges(self, a: Asked) -> Port
         ensures { result ≡ power_is (judges self.power a) self }
     {
-        let w = self.power;
-        let power = w.judges(a);
-        let mut p = self;
-        p.power = power;
-        p
+        Port {
+            power: self.power.judges(a),
+            ..self
+        }
     }
 
+    #[tactic(auto, unfolding(crate::specs::Entering::enter))]
     fn moves(self) -> Entered
         ensures { result ≡ enter Way.Moving nothing_asked self }
     {
         let position = self.power.accepted.position;
-        let p = self.to(State::Moving);
-        p.supplies(Supply::Position(position))
+        self.to(State::Moving)
+            .supplies(Some(Supply::Position(position)))
     }
 
+    #[tactic(auto, unfolding(crate::specs::Entering::enter))]
     fn softens(self) -> Entered
         ensures { result ≡ enter Way.Soft nothing_asked self }
     {
-        let p = self.unchannelled();
-        p.tells(State::Soft, SOFT_RESET)
+        self.unchannelled().tells(State::Soft, SOFT_RESET)
     }
 
     // Where the rules lead.
+    #[tactic(auto, unfolding(crate::specs::Entering::enter))]
     pub(crate) fn enter(self, way: Way, a: Asked) -> Entered
         ensures { result ≡ enter way a self }
     {
         match way {
-            Way::Stay => self.starts(Timer::NoTimer),
+            Way::Stay => self.starts(None),
             Way::Offered => self.offered(),
-            Way::Softened => self.starts(Timer::SenderResponse),
+            Way::Softened => self.starts(Some(Timer::SenderResponse)),
             Way::Offer => self.offers(),
-            Way::Discovery => self.to(State::Discovery).starts(Timer::SourceCapability),
-            Way::Disabled => self.to(State::Disabled).starts(Timer::NoTimer),
-            Way::Judge => self.judges(a).to(State::Judge).starts(Timer::NoTimer),
+            Way::Discovery => self
+                .to(State::Discovery)
+                .starts(Some(Timer::SourceCapability)),
+            Way::Disabled => self.to(State::Disabled).starts(None),
+            Way::Judge => self.judges(a).to(State::Judge).starts(None),
             Way::Accepting => self.tells(State::Accepting, ACCEPT),
             Way::Moving => self.moves(),
             Way::Telling => self.tells(State::Telling, PS_RDY),
-            Way::Ready => self.to(State::Ready).starts(Timer::NoTimer),
+            Way::Ready => self.to(State::Ready).starts(None),
             Way::Declining => self.tells(State::Declining, NOT_SUPPORTED),
             Way::Refusing => self.tells(State::Refusing, REJECT),
-            Way::Waiting => self.to(State::Waiting).starts(Timer::NoTimer),
+            Way::Waiting => self.to(State::Waiting).starts(None),
             Way::Soft => self.softens(),
             Way::Answering => self.tells(State::Answering, ACCEPT),
             Way::Hard => self.hardened(true),
             Way::HardHeard => self.hardened(false),
-            Way::Default => self.to(State::Default).supplies(Supply::Default),
-            Way::Detached => self.to(State::Detached).starts(Timer::NoTimer),
+            Way::Default => self.to(State::Default).supplies(Some(Supply::Default)),
+            Way::Detached => self.to(State::Detached).starts(None),
         }
     }
 }

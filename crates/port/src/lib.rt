@@ -10,10 +10,9 @@ ghost use Rattle.port.specs.Packets.{packet_of};
 
 use channel::Channel;
 use ground::{Refusal, Verdict};
-use offers::Offer;
-use outgoing::Packet;
+use offers::{NO_OFFER, Offer};
+use outgoing::{NO_PACKET, Packet};
 use power::{Change, Power};
-use reading::Reading;
 use sending::HeaderBytes;
 use source::{State, Stimulus, Timer};
 
@@ -21,16 +20,10 @@ mod entering;
 pub mod packets;
 mod steps;
 
-// A struct around the state: a field of this type can be stored to.
-#[derive(Clone, Copy)]
-pub struct Phase {
-    pub state: State,
-}
-
 // The port's memory.
 #[derive(Clone, Copy)]
 pub struct Port {
-    pub phase: Phase,
+    pub state: State,
     // MessageID counter, stored MessageID, pending message and its retries.
     pub channel: Channel,
     pub newest: Offer,
@@ -61,17 +54,9 @@ pub enum Event {
     No,
 }
 
-// The GoodCRC for a packet, or none.
-#[derive(Clone, Copy)]
-pub struct GoodCrc {
-    pub sent: bool,
-    pub bytes: HeaderBytes,
-}
-
 // What the supply is set to.
 #[derive(Clone, Copy)]
 pub enum Supply {
-    Unchanged,
     Default,
     Position(u8),
 }
@@ -79,12 +64,13 @@ pub enum Supply {
 // At most one of each, in the order in which they are done. An empty packet is none to transmit.
 #[derive(Clone, Copy)]
 pub struct Actions {
-    pub good_crc: GoodCrc,
-    pub stop: Timer,
+    // The GoodCRC for a packet.
+    pub good_crc: Option<HeaderBytes>,
+    pub stop: Option<Timer>,
     pub transmit: Packet,
     pub hard_reset: bool,
-    pub supply: Supply,
-    pub start: Timer,
+    pub supply: Option<Supply>,
+    pub start: Option<Timer>,
 }
 
 // The answer: fine or refused, the next port, the actions, and what happened to held power.
@@ -102,13 +88,17 @@ pub struct Entered {
     pub port: Port,
     pub transmit: Packet,
     pub hard_reset: bool,
-    pub supply: Supply,
-    pub start: Timer,
+    pub supply: Option<Supply>,
+    pub start: Option<Timer>,
 }
 
-const NO_OFFER: Offer = Offer {
-    objects: [0u32; 7],
-    count: 0,
+pub const NO_ACTIONS: Actions = Actions {
+    good_crc: None,
+    stop: None,
+    transmit: NO_PACKET,
+    hard_reset: false,
+    supply: None,
+    start: None,
 };
 
 impl Port {
@@ -116,40 +106,33 @@ impl Port {
     pub fn new(newest: Offer) -> Port
         ensures { result ≡ detached_port newest }
     {
-        let channel = channel::new();
-        let power = power::new();
-        let last = NO_OFFER;
         Port {
-            phase: Phase {
-                state: State::Detached,
-            },
-            channel: channel,
-            newest: newest,
+            state: State::Detached,
+            channel: channel::new(),
+            newest,
             gone_out: false,
-            last: last,
-            power: power,
+            last: NO_OFFER,
+            power: power::new(),
             count: 0,
             connected: false,
         }
     }
 
     // An event.
+    #[tactic(auto, unfolding(crate::specs::Steps::event_of))]
     pub fn event(self, e: Event) -> Answer
         ensures { result ≡ event_of self e }
     {
-        let c = self.channel;
         match e {
             Event::Attach => self.happens(Stimulus::Attach, self.cleared(), self.runs()),
             Event::Detach => self.happens(Stimulus::Detach, self.cleared(), self.runs()),
             Event::HardReset => self.happens(Stimulus::HardReset, self, self.runs()),
             Event::Acknowledgement => {
-                self.by_outcome(c.expired(), self.refused(Refusal::NotAwaited))
+                self.by_outcome(self.channel.expired(), self.refused(Refusal::NotAwaited))
             }
-            Event::SenderResponse => self.happens(Stimulus::SenderResponse, self, Timer::NoTimer),
-            Event::SourceCapability => {
-                self.happens(Stimulus::SourceCapability, self, Timer::NoTimer)
-            }
-            Event::PsHardReset => self.happens(Stimulus::PsHardReset, self, Timer::NoTimer),
+            Event::SenderResponse => self.happens(Stimulus::SenderResponse, self, None),
+            Event::SourceCapability => self.happens(Stimulus::SourceCapability, self, None),
+            Event::PsHardReset => self.happens(Stimulus::PsHardReset, self, None),
             Event::SupplyReady => self.happens(Stimulus::SupplyReady, self, self.runs()),
             Event::Yes => self.happens(Stimulus::Yes, self, self.runs()),
             Event::No => self.happens(Stimulus::No, self, self.runs()),
@@ -157,30 +140,29 @@ impl Port {
     }
 
     // A packet, any bytes.
+    #[tactic(auto, unfolding(crate::specs::Packets::packet_of))]
     pub fn packet(self, s: &[u8]) -> Answer
         ensures { result ≡ packet_of self s.now }
     {
-        let r = reading::read(s);
-        match r {
-            Reading::Message { objects, fields } => {
+        match reading::read(s) {
+            Ok(m) => {
                 let request = packets::first_object(reading::objects(s));
-                let fit = offers::judge(objects, request, self.last);
-                self.message(objects, fields, fit)
+                let fit = offers::judge(m.objects, request, self.last);
+                self.message(m.objects, m.fields, fit)
             }
-            Reading::Refused(no) => self.refused(no),
+            Err(no) => self.refused(no),
         }
     }
 
     // A new offer for a port with this limit: any objects.
+    #[tactic(auto, unfolding(crate::specs::Steps::new_offer_of))]
     pub fn new_offer(self, limit: u32, o: Offer) -> Answer
         ensures { result ≡ new_offer_of self limit o }
     {
         if offers::good(limit, o) {
-            let mut p = self;
-            p.newest = o;
-            p.gone_out = false;
-            return self.happens(Stimulus::NewOffer, p, self.runs());
+            self.happens(Stimulus::NewOffer, self.replaced(o), self.runs())
+        } else {
+            self.refused(Refusal::BadOffer)
         }
-        self.refused(Refusal::BadOffer)
     }
 }

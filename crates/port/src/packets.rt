@@ -2,14 +2,14 @@
 ghost use Rattle.std.specs.Prelude.{◌≡◌, drop};
 ghost use Rattle.port.specs.Packets.{first_object, meaning_in, requested, replied, heard_as, asked_by, is_soft_reset, crc_for, hearing, new_packet, other_packet, good_crc_heard, by_meaning, message_of};
 
-use crate::steps::{NO_CRC, NOTHING_ASKED};
-use crate::{Answer, GoodCrc, Port};
+use crate::{Answer, Port};
 use ground::Refusal;
 use meaning::Meaning;
 use message::Fields;
-use offers::{Asked, Fit};
-use power::Change;
-use source::{Heard, Lead};
+use offers::Asked;
+use power::{Change, NOTHING_ASKED};
+use sending::HeaderBytes;
+use source::Heard;
 
 const ACCEPT: u8 = 3;
 
@@ -17,10 +17,11 @@ const ACCEPT: u8 = 3;
 fn behind_two(o: &[u8]) -> &[u8]
     ensures { result.now ≡ drop 2 o.now }
 {
-    if 2 <= o.len() { &o[2..] } else { &o[..0] }
+    if 2 <= o.len() { &o[2..] } else { &[] }
 }
 
 // The first object of some object bytes, least byte first.
+#[tactic(auto, unfolding(crate::specs::Packets::first_object))]
 pub fn first_object(o: &[u8]) -> u32
     ensures { result ≡ first_object o.now }
 {
@@ -29,6 +30,7 @@ pub fn first_object(o: &[u8]) -> u32
     low + high * 65536
 }
 
+#[tactic(auto, unfolding(crate::specs::Packets::meaning_in))]
 pub fn meaning_in(objects: u8, f: Fields) -> Meaning
     ensures { result ≡ meaning_in objects f }
 {
@@ -36,12 +38,12 @@ pub fn meaning_in(objects: u8, f: Fields) -> Meaning
     meaning::meaning_of(k, f.message_type)
 }
 
-fn requested(fit: Fit) -> Heard
+fn requested(fit: Option<Asked>) -> Heard
     ensures { result ≡ requested fit }
 {
     match fit {
-        Fit::Unfit => Heard::OtherRequest,
-        Fit::Fits(_) => Heard::FittingRequest,
+        None => Heard::OtherRequest,
+        Some(_) => Heard::FittingRequest,
     }
 }
 
@@ -56,51 +58,36 @@ fn replied(message_type: u8) -> Heard
 }
 
 // A packet as far as the states tell packets apart.
-pub fn heard_as(m: Meaning, message_type: u8, fit: Fit) -> Heard
+#[tactic(auto, unfolding(crate::specs::Packets::heard_as))]
+pub fn heard_as(m: Meaning, message_type: u8, fit: Option<Asked>) -> Heard
     ensures { result ≡ heard_as m message_type fit }
 {
     match m {
         Meaning::Unsupported => Heard::Unsupported,
-        Meaning::GoodCrc => Heard::Quiet,
         Meaning::Reply => replied(message_type),
         Meaning::GetSourceCap => Heard::GetSourceCap,
         Meaning::SoftReset => Heard::SoftReset,
-        Meaning::Quiet => Heard::Quiet,
+        Meaning::GoodCrc | Meaning::Quiet => Heard::Quiet,
         Meaning::Request => requested(fit),
     }
 }
 
-pub fn asked_by(fit: Fit) -> Asked
+pub fn asked_by(fit: Option<Asked>) -> Asked
     ensures { result ≡ asked_by fit }
 {
-    match fit {
-        Fit::Unfit => NOTHING_ASKED,
-        Fit::Fits(a) => a,
-    }
+    fit.unwrap_or(NOTHING_ASKED)
 }
 
 pub fn is_soft_reset(m: Meaning) -> bool
     ensures { result ≡ is_soft_reset m }
 {
-    match m {
-        Meaning::Unsupported => false,
-        Meaning::GoodCrc => false,
-        Meaning::Reply => false,
-        Meaning::GetSourceCap => false,
-        Meaning::SoftReset => true,
-        Meaning::Quiet => false,
-        Meaning::Request => false,
-    }
+    m == Meaning::SoftReset
 }
 
-pub fn crc_for(f: Fields) -> GoodCrc
+pub fn crc_for(f: Fields) -> Option<HeaderBytes>
     ensures { result ≡ crc_for f }
 {
-    let bytes = sending::good_crc(f);
-    GoodCrc {
-        sent: true,
-        bytes: bytes,
-    }
+    Some(sending::good_crc(f))
 }
 
 impl Port {
@@ -108,26 +95,23 @@ impl Port {
     fn hearing(self, id: u8, soft_reset: bool) -> Port
         ensures { result ≡ hearing self id soft_reset }
     {
-        let c = self.channel;
-        let channel = c.heard(id, soft_reset);
-        let mut p = self;
-        p.channel = channel;
-        p.connected = true;
-        p
+        Port {
+            channel: self.channel.heard(id, soft_reset),
+            connected: true,
+            ..self
+        }
     }
 
-    fn new_packet(self, f: Fields, m: Meaning, fit: Fit) -> Answer
+    #[tactic(auto, unfolding(crate::specs::Packets::new_packet))]
+    fn new_packet(self, f: Fields, m: Meaning, fit: Option<Asked>) -> Answer
         ensures { result ≡ new_packet self f m fit }
     {
-        let phase = self.phase;
-        let s = phase.state;
-        let lead = hearing::packet_leads(s, heard_as(m, f.message_type, fit));
-        match lead {
-            Lead::Refuse => self.refused(Refusal::NotAwaited),
-            Lead::To(way) => {
+        match hearing::packet_leads(self.state, heard_as(m, f.message_type, fit)) {
+            None => self.refused(Refusal::NotAwaited),
+            Some(way) => {
                 let p = self.hearing(f.message_id, is_soft_reset(m));
                 p.turn(
-                    s,
+                    self.state,
                     crc_for(f),
                     self.runs(),
                     Change::Nothing,
@@ -139,11 +123,11 @@ impl Port {
     }
 
     // Any packet but GoodCRC.
-    fn other_packet(self, f: Fields, m: Meaning, fit: Fit) -> Answer
+    #[tactic(auto, unfolding(crate::specs::Packets::other_packet))]
+    fn other_packet(self, f: Fields, m: Meaning, fit: Option<Asked>) -> Answer
         ensures { result ≡ other_packet self f m fit }
     {
-        let c = self.channel;
-        let repeats = c.repeats(f.message_id);
+        let repeats = self.channel.repeats(f.message_id);
         let soft = is_soft_reset(m);
         if repeats & !soft {
             return self.nothing_done(crc_for(f));
@@ -151,37 +135,32 @@ impl Port {
         self.new_packet(f, m, fit)
     }
 
+    #[tactic(auto, unfolding(crate::specs::Packets::good_crc_heard))]
     fn good_crc_heard(self, f: Fields) -> Answer
         ensures { result ≡ good_crc_heard self f }
     {
-        let c = self.channel;
-        let none = NO_CRC;
-        self.by_outcome(c.good_crc(f.message_id), self.nothing_done(none))
+        self.by_outcome(self.channel.good_crc(f.message_id), self.nothing_done(None))
     }
 
-    fn by_meaning(self, m: Meaning, f: Fields, fit: Fit) -> Answer
+    #[tactic(auto, unfolding(crate::specs::Packets::by_meaning))]
+    fn by_meaning(self, m: Meaning, f: Fields, fit: Option<Asked>) -> Answer
         ensures { result ≡ by_meaning m self f fit }
     {
         match m {
-            Meaning::Unsupported => self.other_packet(f, Meaning::Unsupported, fit),
             Meaning::GoodCrc => self.good_crc_heard(f),
-            Meaning::Reply => self.other_packet(f, Meaning::Reply, fit),
-            Meaning::GetSourceCap => self.other_packet(f, Meaning::GetSourceCap, fit),
-            Meaning::SoftReset => self.other_packet(f, Meaning::SoftReset, fit),
-            Meaning::Quiet => self.other_packet(f, Meaning::Quiet, fit),
-            Meaning::Request => self.other_packet(f, Meaning::Request, fit),
+            _ => self.other_packet(f, m, fit),
         }
     }
 
     // A packet that was read.
-    pub(crate) fn message(self, objects: u8, f: Fields, fit: Fit) -> Answer
+    #[tactic(auto, unfolding(crate::specs::Packets::message_of))]
+    pub(crate) fn message(self, objects: u8, f: Fields, fit: Option<Asked>) -> Answer
         ensures { result ≡ message_of self objects f fit }
     {
-        let phase = self.phase;
-        let s = phase.state;
-        if source::listens(s) {
-            return self.by_meaning(meaning_in(objects, f), f, fit);
+        if source::listens(self.state) {
+            self.by_meaning(meaning_in(objects, f), f, fit)
+        } else {
+            self.refused(Refusal::NotAwaited)
         }
-        self.refused(Refusal::NotAwaited)
     }
 }

@@ -2,56 +2,38 @@
 ghost use Rattle.std.specs.Prelude.{◌≡◌};
 ghost use Rattle.port.specs.Parts.{power_is};
 ghost use Rattle.port.specs.Memory.{cleared, facts_of, running_in, no_crc, refused_by};
-ghost use Rattle.port.specs.Steps.{with_change, answered, turn, happens, ending, acknowledged, failed, resent, by_outcome, nothing_done};
+ghost use Rattle.port.specs.Steps.{with_change, answered, turn, happens, ending, acknowledged, failed, resent, by_outcome, nothing_done, replaced};
 ghost use Rattle.power.specs.declared.Change.{Change};
 ghost use Rattle.power.specs.Power.{changed};
 
-use crate::{Actions, Answer, Entered, GoodCrc, Port, Supply};
+use crate::{Actions, Answer, Entered, NO_ACTIONS, Port};
 use channel::Outcome;
-use ground::{Refusal, Verdict};
-use offers::Asked;
-use outgoing::Packet;
-use power::Change;
-use source::{Facts, Lead, State, Stimulus, Timer, Way};
-
-pub(crate) const NO_CRC: GoodCrc = GoodCrc {
-    sent: false,
-    bytes: [0u8; 2],
-};
-
-pub(crate) const NOTHING_ASKED: Asked = Asked {
-    position: 0,
-    voltage: 0,
-    current: 0,
-    worth: 0,
-};
-
-const NO_PACKET: Packet = Packet {
-    bytes: [0u8; 30],
-    length: 0,
-};
+use ground::Refusal;
+use offers::{Asked, Offer};
+use power::{Change, NOTHING_ASKED};
+use sending::HeaderBytes;
+use source::{Facts, State, Stimulus, Timer, Way};
 
 // The whole answer of a port that was in a state and has gone some way.
-fn answered(before: State, crc: GoodCrc, runs: Timer, change: Change, e: Entered) -> Answer
+fn answered(
+    before: State,
+    crc: Option<HeaderBytes>,
+    runs: Option<Timer>,
+    change: Change,
+    e: Entered,
+) -> Answer
     ensures { result ≡ answered before crc runs change e }
 {
-    let p = e.port;
-    let m = e.transmit;
-    let supply = e.supply;
-    let start = e.start;
-    let phase = p.phase;
-    let after = phase.state;
-    let stop = source::stopped(before, after, runs);
     Answer {
-        verdict: Verdict::Fine,
-        port: p,
+        verdict: Ok(()),
+        port: e.port,
         actions: Actions {
             good_crc: crc,
-            stop: stop,
-            transmit: m,
+            stop: source::stopped(before, e.port.state, runs),
+            transmit: e.transmit,
             hard_reset: e.hard_reset,
-            supply: supply,
-            start: start,
+            supply: e.supply,
+            start: e.start,
         },
         held: change,
     }
@@ -62,19 +44,10 @@ impl Port {
     pub(crate) fn refused(self, r: Refusal) -> Answer
         ensures { result ≡ refused_by r self }
     {
-        let crc = NO_CRC;
-        let none = NO_PACKET;
         Answer {
-            verdict: Verdict::Refused(r),
+            verdict: Err(r),
             port: self,
-            actions: Actions {
-                good_crc: crc,
-                stop: Timer::NoTimer,
-                transmit: none,
-                hard_reset: false,
-                supply: Supply::Unchanged,
-                start: Timer::NoTimer,
-            },
+            actions: NO_ACTIONS,
             held: Change::Nothing,
         }
     }
@@ -82,55 +55,57 @@ impl Port {
     pub(crate) fn cleared(self) -> Port
         ensures { result ≡ cleared self }
     {
-        let newest = self.newest;
-        Port::new(newest)
+        Port::new(self.newest)
+    }
+
+    // With a new offer, which has not gone out.
+    pub(crate) fn replaced(self, o: Offer) -> Port
+        ensures { result ≡ replaced self o }
+    {
+        Port {
+            newest: o,
+            gone_out: false,
+            ..self
+        }
     }
 
     pub fn facts(self) -> Facts
         ensures { result ≡ facts_of self }
     {
-        let c = self.channel;
-        let w = self.power;
-        let last = self.last;
-        let pending = c.is_pending();
-        let standing = w.standing(last);
         Facts {
-            pending: pending,
+            pending: self.channel.is_pending(),
             connected: self.connected,
             gone_out: self.gone_out,
             fifty: 50 <= self.count,
-            standing: standing,
+            standing: self.power.standing(self.last),
         }
     }
 
     // The timer that runs.
-    pub fn runs(self) -> Timer
+    pub fn runs(self) -> Option<Timer>
         ensures { result ≡ running_in self }
     {
-        let c = self.channel;
-        let phase = self.phase;
-        let s = phase.state;
-        source::running(s, c.is_pending())
+        source::running(self.state, self.channel.is_pending())
     }
 
     fn with_power(self, c: Change) -> Port
         ensures { result ≡ power_is (changed c self.power) self }
     {
-        let w = self.power;
-        let power = w.changed(c);
-        let mut p = self;
-        p.power = power;
-        p
+        Port {
+            power: self.power.changed(c),
+            ..self
+        }
     }
 
     // Given up: contract, held, count and connected cleared.
     fn gives_up(self) -> Port
         ensures { result ≡ with_change Change.GivenUp self }
     {
-        let mut p = self.with_power(Change::GivenUp);
-        p.count = 0;
-        p.connected = false;
-        p
+        Port {
+            count: 0,
+            connected: false,
+            ..self.with_power(Change::GivenUp)
+        }
     }
 
     fn with_change(self, c: Change) -> Port
@@ -138,43 +113,39 @@ impl Port {
     {
         match c {
             Change::Nothing => self,
-            Change::Accepted => self.with_power(Change::Accepted),
-            Change::InForce => self.with_power(Change::InForce),
+            Change::Accepted | Change::InForce => self.with_power(c),
             Change::GivenUp => self.gives_up(),
         }
     }
 
     // A port that was in a state goes where the rules lead.
+    #[tactic(auto, unfolding(crate::specs::Steps::turn))]
     pub fn turn(
         self,
         before: State,
-        crc: GoodCrc,
-        runs: Timer,
+        crc: Option<HeaderBytes>,
+        runs: Option<Timer>,
         change: Change,
         way: Way,
         a: Asked,
     ) -> Answer
         ensures { result ≡ turn self before crc runs change way a }
     {
-        let p = self.with_change(change);
-        let e = p.enter(way, a);
+        let e = self.with_change(change).enter(way, a);
         answered(before, crc, runs, change, e)
     }
 
     // The port meets a stimulus: `after` is the port after the protocol rules, `runs` the timer that
     // still runs.
-    pub(crate) fn happens(self, e: Stimulus, after: Port, runs: Timer) -> Answer
+    #[tactic(auto, unfolding(crate::specs::Steps::happens))]
+    pub(crate) fn happens(self, e: Stimulus, after: Port, runs: Option<Timer>) -> Answer
         ensures { result ≡ happens self e after runs }
     {
-        let phase = self.phase;
-        let s = phase.state;
-        let lead = stimuli::leads(s, e, self.facts());
-        match lead {
-            Lead::Refuse => self.refused(Refusal::NotAwaited),
-            Lead::To(way) => {
-                let none = NO_CRC;
-                let a = NOTHING_ASKED;
-                after.turn(s, none, runs, source::change(s, e), way, a)
+        match stimuli::leads(self.state, e, self.facts()) {
+            None => self.refused(Refusal::NotAwaited),
+            Some(way) => {
+                let change = source::change(self.state, e);
+                after.turn(self.state, None, runs, change, way, NOTHING_ASKED)
             }
         }
     }
@@ -183,19 +154,20 @@ impl Port {
     fn ending(self) -> Port
         ensures { result ≡ ending self }
     {
-        let c = self.channel;
-        let channel = c.ended();
-        let mut p = self;
-        p.channel = channel;
-        p
+        Port {
+            channel: self.channel.ended(),
+            ..self
+        }
     }
 
+    #[tactic(auto, unfolding(crate::specs::Steps::acknowledged))]
     fn acknowledged(self) -> Answer
         ensures { result ≡ acknowledged self }
     {
         self.happens(Stimulus::Acknowledged, self.ending(), self.runs())
     }
 
+    #[tactic(auto, unfolding(crate::specs::Steps::failed))]
     fn failed(self) -> Answer
         ensures { result ≡ failed self }
     {
@@ -203,28 +175,25 @@ impl Port {
     }
 
     // The pending message goes out again.
+    #[tactic(auto, unfolding(crate::specs::Steps::resent))]
     fn resent(self) -> Answer
         ensures { result ≡ resent self }
     {
-        let phase = self.phase;
-        let s = phase.state;
-        let m = self.channel.pending.packet;
-        let c = self.channel;
-        let channel = c.again();
-        let mut p = self;
-        p.channel = channel;
-        let none = NO_CRC;
         let e = Entered {
-            port: p,
-            transmit: m,
+            port: Port {
+                channel: self.channel.again(),
+                ..self
+            },
+            transmit: self.channel.pending.packet,
             hard_reset: false,
-            supply: Supply::Unchanged,
-            start: Timer::NoTimer,
+            supply: None,
+            start: None,
         };
-        answered(s, none, Timer::NoTimer, Change::Nothing, e)
+        answered(self.state, None, None, Change::Nothing, e)
     }
 
     // What a GoodCRC or the acknowledgement timer comes to; `none` is the answer where nothing is pending.
+    #[tactic(auto, unfolding(crate::specs::Steps::by_outcome))]
     pub(crate) fn by_outcome(self, o: Outcome, none: Answer) -> Answer
         ensures { result ≡ by_outcome o none self }
     {
@@ -237,12 +206,10 @@ impl Port {
     }
 
     // Nothing is done, but perhaps a GoodCRC sent.
-    pub(crate) fn nothing_done(self, crc: GoodCrc) -> Answer
+    #[tactic(auto, unfolding(crate::specs::Steps::nothing_done))]
+    pub(crate) fn nothing_done(self, crc: Option<HeaderBytes>) -> Answer
         ensures { result ≡ nothing_done crc self }
     {
-        let phase = self.phase;
-        let s = phase.state;
-        let e = self.starts(Timer::NoTimer);
-        answered(s, crc, Timer::NoTimer, Change::Nothing, e)
+        answered(self.state, crc, None, Change::Nothing, self.starts(None))
     }
 }

@@ -17,7 +17,7 @@ nobody =
     record {
       port =
           record {
-            phase = record { state = State.Detached };
+            state = State.Detached;
             channel = record { counter = 0; stored = None; pending = record { packet = record { bytes = []; length = 0 }; retries = 0 } };
             newest = record { objects = []; count = 0 };
             gone_out = false;

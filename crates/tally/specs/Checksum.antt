@@ -33,7 +33,8 @@ supply_number (Some (Supply.Position n)) = n
 
 -- "its two bytes as a number, least byte first; 0 for none"
 unfoldable pub crc_number : Option (List ℕ) → ℕ
-crc_number c = cond c.sent (word_of c.bytes) 0
+crc_number None = 0
+crc_number (Some bytes) = word_of bytes
 
 abbrev pub bit : Bool → ℕ
 bit true = 1
