@@ -22,8 +22,9 @@ use Rattle.rackclaims.proofs.AcceptOnTheWire.{accept_is_sent}
 use Rattle.demands.specs.Ours.{ours}
 use Rattle.demands.specs.Demand3.{SupplyHolds, ShareIsGranted, HistoryIsTrue, Demand3}
 use Rattle.std.specs.Prelude.{Ok}
+use Rattle.setup.specs.SetUps.{verdict_of, rack_in}
 
-module _ (u : SetUp) (accepted : (accepted_set_up u).verdict ≡ Ok tt) (es : List Happens) where
+module _ (u : SetUp) (accepted : verdict_of (accepted_set_up u) ≡ Ok tt) (es : List Happens) where
   supply : SupplyHolds ours u es
   supply =
       record {
@@ -34,7 +35,7 @@ module _ (u : SetUp) (accepted : (accepted_set_up u).verdict ≡ Ok tt) (es : Li
 
   module _ (i : ℕ) (here : i < u.count) where
     abbrev r : Rack
-    r = run (accepted_set_up u).rack es
+    r = run (rack_in (accepted_set_up u)) es
 
     k : Reached u r
     k = Supply.reached u accepted es

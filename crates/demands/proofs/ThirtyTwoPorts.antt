@@ -22,6 +22,7 @@ use Rattle.setup.specs.SetUps.{good_setting, good_set_up, accepted_set_up}
 use Rattle.demands.specs.Ours.{ours}
 use Rattle.ground.specs.Refusals.{Verdict}
 use Rattle.std.specs.Prelude.{Ok, Err}
+use Rattle.setup.specs.SetUps.{verdict_of, rack_in}
 
 -- 5 V, 9 V, 10 V, 12 V, 15 V, 18 V and 20 V, each with 5 A
 abbrev seven_objects : Offer
@@ -36,15 +37,15 @@ largest = alike 32 200000 6400000
 
 -- what is answered to an attach at the port of a number
 abbrev attach : ℕ → Verdict
-attach number = (ours.step (ours.accepted_set_up largest).rack number (event Event.Attach)).verdict
+attach number = (ours.step (rack_in (ours.accepted_set_up largest)) number (event Event.Attach)).verdict
 
 pub record Cases : Type 0 where
-  pub set_up_lem : (ours.accepted_set_up largest).verdict ≡ Ok tt
+  pub set_up_lem : verdict_of (ours.accepted_set_up largest) ≡ Ok tt
   pub last_port : attach 32 ≡ Ok tt
   pub past_the_last : (attach 33 ≡ Err NotInRack) × (attach 255 ≡ Err NotInRack)
-  pub port_more : ((ours.accepted_set_up (alike 33 30000 6400000)).verdict ≡ Err BadSetUp) × ((ours.accepted_set_up (alike 255 30000 6400000)).verdict ≡ Err BadSetUp)
-  pub unit_more : (ours.accepted_set_up (alike 32 30000 6400001)).verdict ≡ Err BadSetUp
-  pub unit_less : (ours.accepted_set_up (alike 32 200000 6399999)).verdict ≡ Err BadSetUp
+  pub port_more : (verdict_of (ours.accepted_set_up (alike 33 30000 6400000)) ≡ Err BadSetUp) × (verdict_of (ours.accepted_set_up (alike 255 30000 6400000)) ≡ Err BadSetUp)
+  pub unit_more : verdict_of (ours.accepted_set_up (alike 32 30000 6400001)) ≡ Err BadSetUp
+  pub unit_less : verdict_of (ours.accepted_set_up (alike 32 200000 6399999)) ≡ Err BadSetUp
 
 pub cases : Cases
 unfolding object_at good_object good_from good_offer data_of standing_of leads change_of enter turn happens event_of Port.step settled answer_at step good_setting good_set_up accepted_set_up

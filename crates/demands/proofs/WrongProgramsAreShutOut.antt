@@ -65,6 +65,7 @@ use Rattle.demands.proofs.ThirtyTwoPorts as Large
 use Rattle.ground.specs.Refusals.{Verdict}
 use Rattle.reading.specs.Reading.{message_with}
 use Rattle.std.specs.Prelude.{Ok, Err}
+use Rattle.setup.specs.SetUps.{verdict_of}
 
 -- ---- the night desk, and what came to it
 abbrev u : SetUp
@@ -136,7 +137,7 @@ reserved = record { extended = false; message_id = 0; power_role = 1; revision =
 
 -- ---- the cases, computed
 record Cases : Type 0 where
-  set_up_lem : (accepted_set_up u).verdict ≡ Ok tt
+  set_up_lem : verdict_of (accepted_set_up u) ≡ Ok tt
   good : good_set_up u ≡ true
   read : (read_of Desk.for30000 ≡ message_with 1 first) × (read_of Desk.for54000 ≡ message_with 1 first) × (meaning_in 1 first ≡ Meaning.Request)
   refusing : Acceptable Wrong.rejects_everything u one 0 Desk.for30000 1 first

@@ -24,6 +24,7 @@ use Rattle.rackclaims.specs.Told.{told_of}
 use Rattle.demands.specs.Programs.{Program, rack_now, history, AtAnyPort}
 use Rattle.reading.specs.Reading.{message_with}
 use Rattle.std.specs.Prelude.{Ok}
+use Rattle.setup.specs.SetUps.{verdict_of}
 
 module _ (P : Program) (u : SetUp) (es : List Happens) where
   -- held power, by the history of the port at a place
@@ -61,6 +62,6 @@ module _ (P : Program) (u : SetUp) (es : List Happens) where
       pub program_keeps_it : port.power.held ≡ held i
 
 pub record Demand3 (P : Program) : Type 0 where
-  pub supply : (u : SetUp) → (P.accepted_set_up u).verdict ≡ Ok tt → (es : List Happens) → SupplyHolds P u es
+  pub supply : (u : SetUp) → verdict_of (P.accepted_set_up u) ≡ Ok tt → (es : List Happens) → SupplyHolds P u es
   pub share : AtAnyPort P (ShareIsGranted P)
   pub history : AtAnyPort P (HistoryIsTrue P)

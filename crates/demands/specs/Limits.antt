@@ -9,8 +9,9 @@ use Rattle.rack.specs.Ports.{at, place_of, total}
 use Rattle.rack.specs.Steps.{Happening, own_answer, turned, refused_by}
 use Rattle.rack.specs.Runs.{Stepping}
 use Rattle.setup.specs.declared.SetUp.{SetUp}
-use Rattle.setup.specs.declared.Started.{Started}
 use Rattle.setup.specs.SetUps.{least, setting, good_setting, everywhere, shares, judged}
+use Rattle.std.specs.Prelude.{Result}
+use Rattle.ground.specs.declared.Refusal.{Refusal}
 
 -- ---- a rack of at most so many ports
 abbrev pub ports_up_to : ℕ → Rack → ℕ
@@ -34,5 +35,5 @@ good_up_to most largest u =
     (leb 1 u.count && leb u.count most)
     && (everywhere (λ k. good_setting (setting u k)) u.count && ((leb least u.supply && leb u.supply largest) && leb (shares u u.count) u.supply))
 
-abbrev pub set_up_up_to : ℕ → ℕ → SetUp → Started
+abbrev pub set_up_up_to : ℕ → ℕ → SetUp → Result Rack Refusal
 set_up_up_to most largest u = judged (good_up_to most largest u) u

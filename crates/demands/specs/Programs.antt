@@ -5,11 +5,11 @@ use Rattle.message.specs.declared.Fields.{Fields}
 use Rattle.rack.specs.declared.Rack.{Rack}
 use Rattle.rack.specs.Runs.{Stepping, Happens, run_by}
 use Rattle.setup.specs.declared.SetUp.{SetUp}
-use Rattle.setup.specs.declared.Started.{Started}
 use Rattle.rackclaims.specs.History.{Entry, history_by}
 use Rattle.std.specs.Prelude.{Ok, Result}
 use Rattle.reading.specs.declared.Message.{Message}
 use Rattle.ground.specs.declared.Refusal.{Refusal}
+use Rattle.setup.specs.SetUps.{verdict_of, rack_in}
 
 pub record Program : Type 0 where
   -- reading a packet: the fields or the refusal, and the object bytes that are handed back
@@ -19,16 +19,16 @@ pub record Program : Type 0 where
   pub write : Fields → List ℕ → List ℕ → ℕ → Result ℕ Refusal
   pub buffer : Fields → List ℕ → List ℕ → ℕ → List ℕ
   -- a set-up; and an event at the port of a number
-  pub accepted_set_up : SetUp → Started
+  pub accepted_set_up : SetUp → Result Rack Refusal
   pub step : Stepping
 
 -- after a set-up and some events: the rack; and the history, what came and what was answered
 abbrev pub rack_now : Program → SetUp → List Happens → Rack
-rack_now P u es = run_by P.step (P.accepted_set_up u).rack es
+rack_now P u es = run_by P.step (rack_in (P.accepted_set_up u)) es
 
 abbrev pub history : Program → SetUp → List Happens → List Entry
-history P u es = history_by P.step (P.accepted_set_up u).rack es
+history P u es = history_by P.step (rack_in (P.accepted_set_up u)) es
 
 -- "After an accepted set-up and through any events at any ports", of each port
 abbrev pub AtAnyPort : Program → (SetUp → List Happens → ℕ → Type 0) → Type 0
-AtAnyPort P D = (u : SetUp) → (P.accepted_set_up u).verdict ≡ Ok tt → (es : List Happens) (i : ℕ) → i < u.count → D u es i
+AtAnyPort P D = (u : SetUp) → verdict_of (P.accepted_set_up u) ≡ Ok tt → (es : List Happens) (i : ℕ) → i < u.count → D u es i

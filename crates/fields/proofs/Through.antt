@@ -15,6 +15,7 @@ use Rattle.night.specs.Events.{next_of}
 use Rattle.night.specs.SetUps.{set_up_in}
 use Rattle.fields.specs.declared.Field.{Field}
 use Rattle.fields.specs.Answers.{field_by, field_of, fields_in, last_rack, size_of_all, Through}
+use Rattle.std.specs.Prelude.{is_some}
 
 -- ---- a field does not reach past the end
 abbrev NotCut : Found → Type 0
@@ -40,7 +41,7 @@ module _ (r : Rack) (l : List ℕ) where
   by_found Found.Cut e = omega arith
   by_found Found.UnknownTag e = omega arith
   by_found Found.WrongLength e = omega arith
-  by_found Found.SetUp e = by_laid (set_up_in l).whole (size_of l) _ _ refl refl (whole_found l (is_whole l) refl (subst NotCut e tt))
+  by_found Found.SetUp e = by_laid (is_some (set_up_in l)) (size_of l) _ _ refl refl (whole_found l (is_whole l) refl (subst NotCut e tt))
   by_found (Found.Event number x) e = whole_found l (is_whole l) refl (subst NotCut e tt)
   by_found (Found.Packet number) e = whole_found l (is_whole l) refl (subst NotCut e tt)
   by_found (Found.NewOffer number) e = whole_found l (is_whole l) refl (subst NotCut e tt)

@@ -4,16 +4,19 @@ use Rattle.port.specs.Memory.{no_actions}
 use Rattle.rack.specs.declared.Rack.{Rack}
 use Rattle.rack.specs.declared.RackAnswer.{RackAnswer}
 use Rattle.rack.specs.Steps.{event, packet, new_offer, step}
-use Rattle.setup.specs.declared.Started.{Started}
 use Rattle.setup.specs.SetUps.{accepted_set_up}
 use Rattle.night.specs.declared.Found.{Found}
-use Rattle.night.specs.declared.Laid.{Laid}
 use Rattle.night.specs.Fields.{size_of}
 use Rattle.night.specs.Events.{next_of, behind_of, offer_of}
 use Rattle.night.specs.SetUps.{set_up_in}
 use Rattle.fields.specs.declared.Field.{Field}
 use Rattle.ground.specs.Refusals.{Verdict}
 use Rattle.std.specs.Prelude.{Ok, Err}
+use Rattle.setup.specs.SetUps.{verdict_of, rack_in}
+use Rattle.std.specs.Prelude.{is_some, Option, Result}
+use Rattle.night.specs.SetUps.{set_up_or_none}
+use Rattle.setup.specs.declared.SetUp.{SetUp}
+use Rattle.ground.specs.declared.Refusal.{Refusal}
 
 -- "Nothing is skipped": what cannot be read changes nothing
 abbrev pub unread : Found → Rack → Field
@@ -27,11 +30,11 @@ abbrev pub rack_after : Verdict → Rack → Rack → Rack
 rack_after (Ok _) new old = new
 rack_after (Err r) new old = old
 
-abbrev pub started_field : Rack → Started → ℕ → Field
-started_field r s size = record { found = Found.SetUp; read = true; verdict = s.verdict; actions = no_actions; rack = rack_after s.verdict s.rack r; size = size }
+abbrev pub started_field : Rack → Result Rack Refusal → ℕ → Field
+started_field r s size = record { found = Found.SetUp; read = true; verdict = verdict_of s; actions = no_actions; rack = rack_after (verdict_of s) (rack_in s) r; size = size }
 
-abbrev pub laid_field : Rack → Laid → ℕ → Field
-laid_field r laid size = cond laid.whole (started_field r (accepted_set_up laid.set_up) size) (unread Found.SetUp r)
+abbrev pub laid_field : Rack → Option SetUp → ℕ → Field
+laid_field r laid size = cond (is_some laid) (started_field r (accepted_set_up (set_up_or_none laid)) size) (unread Found.SetUp r)
 
 abbrev pub set_up_field : Rack → List ℕ → ℕ → Field
 set_up_field r l size = laid_field r (set_up_in l) size

@@ -4,6 +4,7 @@ use Rattle.night.specs.declared.Found.{Found}
 use Rattle.night.specs.Events.{next_of}
 use Rattle.night.specs.SetUps.{set_up_in}
 use Rattle.fields.specs.declared.Ending.{Ending}
+use Rattle.std.specs.Prelude.{is_some}
 
 -- by what is found, and whether it is a rack group that is laid out as it must be
 abbrev pub ending_by : Found → Bool → Ending
@@ -17,4 +18,4 @@ ending_by (Found.NewOffer number) laid = Ending.Readable
 
 -- where no byte is left, the night was read to its end
 unfoldable pub ending_of : List ℕ → Ending
-ending_of l = cond (eqb (length l) 0) Ending.Whole (ending_by (next_of l) (set_up_in l).whole)
+ending_of l = cond (eqb (length l) 0) Ending.Whole (ending_by (next_of l) (is_some (set_up_in l)))

@@ -5,8 +5,8 @@ use Rattle.port.specs.Memory.{no_offer}
 use Rattle.rack.specs.Ports.{most_ports}
 use Rattle.setup.specs.declared.Setting.{Setting}
 use Rattle.setup.specs.declared.SetUp.{SetUp}
-use Rattle.night.specs.declared.Laid.{Laid}
 use Rattle.night.specs.Fields.{tag_of, length_of, size_of, value_of, number_at, offer_in}
+use Rattle.std.specs.Prelude.{Some, None, Option}
 
 -- whether a field's tag and length stand at a place
 unfoldable pub head_is : List ℕ → ℕ → ℕ → ℕ → Bool
@@ -43,14 +43,14 @@ nobody = record { share = 0; limit = 0; offer = no_offer }
 abbrev pub no_set_up : SetUp
 no_set_up = record { settings = replicate most_ports nobody; count = 0; supply = 0 }
 
-abbrev pub not_laid : Laid
-not_laid = record { whole = false; set_up = no_set_up }
+abbrev pub not_laid : Option SetUp
+not_laid = None
 
-abbrev pub supplied : SetUp → ℕ → Laid
-supplied u supply = record { whole = true; set_up = record { settings = u.settings; count = u.count; supply = supply } }
+abbrev pub supplied : SetUp → ℕ → Option SetUp
+supplied u supply = Some record { settings = u.settings; count = u.count; supply = supply }
 
 -- port groups and the supply, from a set-up with the ports before them on; there are at most as many groups as bytes
-unfoldable pub group_in : ℕ → SetUp → List ℕ → Laid
+unfoldable pub group_in : ℕ → SetUp → List ℕ → Option SetUp
 group_in zero u l = not_laid
 group_in (suc n) u l =
     cond (is_supply l) (supplied u (number_at l 3))
@@ -58,5 +58,10 @@ group_in (suc n) u l =
     not_laid)
 
 -- the set-up that a rack group says
-unfoldable pub set_up_in : List ℕ → Laid
+unfoldable pub set_up_in : List ℕ → Option SetUp
 set_up_in l = group_in (length (value_of l)) no_set_up (value_of l)
+
+-- that set-up, or one of no port
+abbrev pub set_up_or_none : Option SetUp → SetUp
+set_up_or_none None = no_set_up
+set_up_or_none (Some u) = u

@@ -28,13 +28,6 @@ pub enum Found {
     NewOffer(u8),
 }
 
-// A set-up as a field's value says it, or that it is not laid out as it must be.
-#[derive(Clone, Copy)]
-pub struct Laid {
-    pub whole: bool,
-    pub set_up: SetUp,
-}
-
 // The bytes from a place on; none past the end.
 pub(crate) fn from(s: &[u8], at: usize) -> &[u8]
     ensures { result.now ≡ drop at s.now }
@@ -179,8 +172,8 @@ pub fn offer(s: &[u8]) -> Offer
     offer_in(behind(s))
 }
 
-// The set-up of a rack group.
-pub fn set_up(s: &[u8]) -> Laid
+// The set-up of a rack group; none where it is not laid out as it must be.
+pub fn set_up(s: &[u8]) -> Option<SetUp>
     ensures { result ≡ set_up_in s.now }
 {
     setups::group_in(value(s))

@@ -2,8 +2,7 @@
 ghost use Rattle.std.specs.Prelude.{◌≡◌, ◌+◌, min, length};
 ghost use Rattle.night.specs.SetUps.{head_is, is_setting, setting_of, is_port, is_supply, placed, no_set_up, not_laid, supplied, group_in};
 
-use crate::Laid;
-use offers::Offer;
+use offers::NO_OFFER;
 use rack::PORTS;
 use setup::{SetUp, Setting};
 
@@ -84,14 +83,10 @@ fn placed(u: SetUp, s: Setting) -> SetUp
 fn no_set_up() -> SetUp
     ensures { result ≡ no_set_up }
 {
-    let offer = Offer {
-        objects: [0u32; 7],
-        count: 0,
-    };
     let nobody = Setting {
         share: 0,
         limit: 0,
-        offer: offer,
+        offer: NO_OFFER,
     };
     SetUp {
         settings: [nobody; PORTS],
@@ -100,29 +95,8 @@ fn no_set_up() -> SetUp
     }
 }
 
-fn not_laid() -> Laid
-    ensures { result ≡ not_laid }
-{
-    let u = no_set_up();
-    Laid {
-        whole: false,
-        set_up: u,
-    }
-}
-
-fn supplied(u: SetUp, supply: u32) -> Laid
-    ensures { result ≡ supplied u supply }
-{
-    let mut all = u;
-    all.supply = supply;
-    Laid {
-        whole: true,
-        set_up: all,
-    }
-}
-
 // The set-up of a rack group's value.
-pub(crate) fn group_in(s: &[u8]) -> Laid
+pub(crate) fn group_in(s: &[u8]) -> Option<SetUp>
     ensures { result ≡ group_in (length s.now) no_set_up s.now }
 {
     let mut u = no_set_up();
@@ -133,13 +107,16 @@ pub(crate) fn group_in(s: &[u8]) -> Laid
         left -= 1;
         let f = crate::from(s, at);
         if is_supply(f) {
-            return supplied(u, crate::number(f, 3));
+            return Some(SetUp {
+                supply: crate::number(f, 3),
+                ..u
+            });
         }
         if !is_port(f) {
-            return not_laid();
+            return None;
         }
         u = placed(u, setting_of(crate::value(f)));
         at += crate::size(f);
     }
-    not_laid()
+    None
 }

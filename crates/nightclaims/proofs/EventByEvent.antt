@@ -21,6 +21,7 @@ use Rattle.playing.specs.Nights.{answered, event_done, field_done, is_readable, 
 use Rattle.nightclaims.specs.Happened.{happens_by, happened_in, no_set_up_in}
 use Rattle.nightclaims.specs.Answered.{Said, said_by, said_in, said_to, tally_of, tallied}
 use Rattle.nightclaims.proofs.FieldByField.{read_same, size_same}
+use Rattle.std.specs.Prelude.{is_some}
 
 -- ---- an event is a step of the rack
 module _ (p : Played) (l : List ℕ) where
@@ -80,7 +81,7 @@ module _ {P A : Type 0} (see : P → A) (expect : List Happens → A) (p q : P) 
   by_field Found.Cut rest h = nothing
   by_field Found.UnknownTag rest h = nothing
   by_field Found.WrongLength rest h = nothing
-  by_field Found.SetUp rest h = not_read (set_up_in l).whole h
+  by_field Found.SetUp rest h = not_read (is_some (set_up_in l)) h
   by_field (Found.Event number e) rest h = rest refl h
   by_field (Found.Packet number) rest h = rest refl h
   by_field (Found.NewOffer number) rest h = rest refl h

@@ -23,6 +23,9 @@ use Rattle.nightclaims.specs.Pieces.{played}
 use Rattle.nightclaims.specs.Answered.{answer_told, answers_told}
 use Rattle.ground.specs.Refusals.{Verdict}
 use Rattle.std.specs.Prelude.{Ok, Err}
+use Rattle.setup.specs.SetUps.{verdict_of, rack_in}
+use Rattle.std.specs.Prelude.{is_some}
+use Rattle.night.specs.SetUps.{set_up_or_none}
 
 -- ---- one field
 module _ (r : Rack) (l : List ℕ) where
@@ -34,7 +37,7 @@ module _ (r : Rack) (l : List ℕ) where
   read_by Found.Cut = refl
   read_by Found.UnknownTag = refl
   read_by Found.WrongLength = refl
-  read_by Found.SetUp = laid_read (set_up_in l).whole _ _ refl refl
+  read_by Found.SetUp = laid_read (is_some (set_up_in l)) _ _ refl refl
   read_by (Found.Event number e) = refl
   read_by (Found.Packet number) = refl
   read_by (Found.NewOffer number) = refl
@@ -52,7 +55,7 @@ module _ (r : Rack) (l : List ℕ) where
   size_by Found.Cut e = true_not_false (sym e)
   size_by Found.UnknownTag e = true_not_false (sym e)
   size_by Found.WrongLength e = true_not_false (sym e)
-  size_by Found.SetUp e = laid_size (set_up_in l).whole _ _ e
+  size_by Found.SetUp e = laid_size (is_some (set_up_in l)) _ _ e
   size_by (Found.Event number x) e = refl
   size_by (Found.Packet number) e = refl
   size_by (Found.NewOffer number) e = refl
@@ -71,7 +74,7 @@ module _ (p : Played) (l : List ℕ) where
   done_by_lem Found.Cut e = true_not_false (sym e)
   done_by_lem Found.UnknownTag e = true_not_false (sym e)
   done_by_lem Found.WrongLength e = true_not_false (sym e)
-  done_by_lem Found.SetUp e = rw (e, rack_same (accepted_set_up (set_up_in l).set_up).verdict (accepted_set_up (set_up_in l).set_up).rack p.rack) refl
+  done_by_lem Found.SetUp e = rw (e, rack_same (verdict_of (accepted_set_up (set_up_or_none (set_up_in l)))) (rack_in (accepted_set_up (set_up_or_none (set_up_in l)))) p.rack) refl
   done_by_lem (Found.Event number x) e = refl
   done_by_lem (Found.Packet number) e = refl
   done_by_lem (Found.NewOffer number) e = refl

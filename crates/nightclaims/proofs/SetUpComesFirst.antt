@@ -8,7 +8,6 @@ use lib.ListN.{length, drop}
 use lib.Seq.{drop-append_seam}
 use Rattle.setup.specs.SetUps.{accepted_set_up}
 use Rattle.night.specs.declared.Found.{Found}
-use Rattle.night.specs.declared.Laid.{Laid}
 use Rattle.night.specs.Fields.{size_of}
 use Rattle.night.specs.Events.{next_of}
 use Rattle.night.specs.Layout.{PortGroup, rack_bytes, set_up_for, Fit}
@@ -18,6 +17,9 @@ use Rattle.playing.specs.Nights.{set_up_done, field_done, is_readable}
 use Rattle.nightclaims.specs.Pieces.{played}
 use Rattle.nightclaims.proofs.PiecesChangeNothing.{first_field}
 use Rattle.std.specs.Prelude.{Ok}
+use Rattle.setup.specs.SetUps.{verdict_of, rack_in}
+use Rattle.std.specs.Prelude.{is_some, Option}
+use Rattle.setup.specs.declared.SetUp.{SetUp}
 
 module _ (ports : List PortGroup) (supply : ℕ) where
   -- the set-up is judged, and its bytes are read
@@ -25,7 +27,7 @@ module _ (ports : List PortGroup) (supply : ℕ) where
   set_up_played p = set_up_done p (accepted_set_up (set_up_for ports supply)) (length (rack_bytes ports supply))
 
   -- THE CLAIM: where it is accepted, there is its rack, whatever rack there was
-  pub its_rack : (p : Played) → (accepted_set_up (set_up_for ports supply)).verdict ≡ Ok tt → (set_up_played p).rack ≡ (accepted_set_up (set_up_for ports supply)).rack
+  pub its_rack : (p : Played) → verdict_of (accepted_set_up (set_up_for ports supply)) ≡ Ok tt → (set_up_played p).rack ≡ rack_in (accepted_set_up (set_up_for ports supply))
   unfolding set_up_done
   its_rack p accepted = rw accepted
 
@@ -36,7 +38,7 @@ module _ (ports : List PortGroup) (supply : ℕ) where
     readable : is_readable (next_of file) file ≡ true
     readable =
         ap (λ (found : Found). is_readable found file) (Back.found ports supply fit l)
-        ∙ ap (λ (laid : Laid). laid.whole) (Back.reads_back ports supply fit l)
+        ∙ ap (λ (laid : Option SetUp). (is_some laid)) (Back.reads_back ports supply fit l)
 
     rest : drop (size_of file) file ≡ l
     rest = rw (Back.all_of_it ports supply fit l) (drop-append_seam (rack_bytes ports supply) l)

@@ -31,24 +31,26 @@ use Rattle.nightclaims.specs.InSupply.{held_in, InSupply}
 use Rattle.nightclaims.proofs.EventByEvent.{event_by_event}
 use Rattle.nightclaims.proofs.SetUpComesFirst.{set_up_played, set_up_comes_first, its_rack}
 use Rattle.std.specs.Prelude.{Ok}
+use Rattle.setup.specs.SetUps.{verdict_of, rack_in}
+use Rattle.night.specs.SetUps.{set_up_or_none}
 
 -- ---- an accepted set-up u, and then events: whatever bytes, as long as no set-up is read
 module _ (u : SetUp)
-    (accepted : (accepted_set_up u).verdict ≡ Ok tt)
+    (accepted : verdict_of (accepted_set_up u) ≡ Ok tt)
     (p : Played)
-    (is_set_up_lem : p.rack ≡ (accepted_set_up u).rack)
+    (is_set_up_lem : p.rack ≡ rack_in (accepted_set_up u))
     (l : List ℕ)
     (events : no_set_up_in (length l) l ≡ true) where
   abbrev es : List Happens
   es = happened_in (length l) l
 
-  rack_is : (played p l).rack ≡ run (accepted_set_up u).rack es
+  rack_is : (played p l).rack ≡ run (rack_in (accepted_set_up u)) es
   rack_is = event_by_event (length l) p l events ∙ ap (λ (r : Rack). run r es) is_set_up_lem
 
   abbrev held_after : ℕ → ℕ
   held_after = held_in (played p l).rack
 
-  by_history : (i : ℕ) → i < u.count → held_after i ≡ held_by (suc i) (history (accepted_set_up u).rack es)
+  by_history : (i : ℕ) → i < u.count → held_after i ≡ held_by (suc i) (history (rack_in (accepted_set_up u)) es)
   by_history i h = ap (λ (r : Rack). held_in r i) rack_is ∙ Supply.program_keeps_the_history u accepted es i h
 
   -- THE CLAIM: no port holds more than its limit
@@ -69,7 +71,7 @@ module _ (u : SetUp)
 -- ---- the same of a file: the bytes of a set-up as docs/NIGHT.md lays them out, and then events; whatever was played before
 module _ (ports : List PortGroup) (supply : ℕ)
     (fit : Fit ports supply)
-    (accepted : (accepted_set_up (set_up_for ports supply)).verdict ≡ Ok tt)
+    (accepted : verdict_of (accepted_set_up (set_up_for ports supply)) ≡ Ok tt)
     (p : Played)
     (l : List ℕ)
     (events : no_set_up_in (length l) l ≡ true) where
@@ -79,7 +81,7 @@ module _ (ports : List PortGroup) (supply : ℕ)
   abbrev then' : Played
   then' = set_up_played ports supply p
 
-  there : then'.rack ≡ (accepted_set_up laid).rack
+  there : then'.rack ≡ rack_in (accepted_set_up laid)
   there = its_rack ports supply p accepted
 
   -- the rack that the file comes to
@@ -125,7 +127,7 @@ unfolding event_done answered set_up_done accepted_set_up
 field_stands Found.Cut p l k = k
 field_stands Found.UnknownTag p l k = k
 field_stands Found.WrongLength p l k = k
-field_stands Found.SetUp p l k = by_goodness p.rack (set_up_in l).set_up (good_set_up (set_up_in l).set_up) refl k
+field_stands Found.SetUp p l k = by_goodness p.rack (set_up_or_none (set_up_in l)) (good_set_up (set_up_or_none (set_up_in l))) refl k
 field_stands (Found.Event number e) p l k = event_stands p.rack number _ k
 field_stands (Found.Packet number) p l k = event_stands p.rack number _ k
 field_stands (Found.NewOffer number) p l k = event_stands p.rack number _ k

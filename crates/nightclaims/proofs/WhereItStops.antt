@@ -25,6 +25,7 @@ use Rattle.nightclaims.specs.Pieces.{played, left_of, read_of}
 use Rattle.nightclaims.proofs.WholeFields.{three_bytes}
 use Rattle.nightclaims.proofs.PiecesChangeNothing.{read_fits, moves_on, first_field, place_is, left_is_left}
 use Rattle.nightclaims.proofs.PlaceCountsOn.{left_at_its_place}
+use Rattle.std.specs.Prelude.{is_some}
 
 -- ---- why it stops
 abbrev is_that : Ending → Bool
@@ -39,11 +40,11 @@ laid_that : (laid : Bool) → is_that (cond laid Ending.Readable Ending.NotLaid)
 laid_that true = refl
 laid_that false = refl
 
-that_by : (found : Found) (l : List ℕ) → is_that (ending_by found (set_up_in l).whole) ≡ is_readable found l
+that_by : (found : Found) (l : List ℕ) → is_that (ending_by found (is_some (set_up_in l))) ≡ is_readable found l
 that_by Found.Cut l = refl
 that_by Found.UnknownTag l = refl
 that_by Found.WrongLength l = refl
-that_by Found.SetUp l = laid_that (set_up_in l).whole
+that_by Found.SetUp l = laid_that (is_some (set_up_in l))
 that_by (Found.Event number e) l = refl
 that_by (Found.Packet number) l = refl
 that_by (Found.NewOffer number) l = refl
@@ -75,7 +76,7 @@ module _ (p : Played) (l : List ℕ) where
   pub has_a_reason : ending_of left ≡ Ending.Readable → ⊥
   unfolding ending_of
   has_a_reason e =
-      true_not_false (sym (ap is_that e) ∙ not_that (eqb (length left) 0) (ending_by (next_of left) (set_up_in left).whole) (that_by (next_of left) left ∙ nothing_readable))
+      true_not_false (sym (ap is_that e) ∙ not_that (eqb (length left) 0) (ending_by (next_of left) (is_some (set_up_in left))) (that_by (next_of left) left ∙ nothing_readable))
 
 -- ---- what is kept
 bounded : (c : Bool) (k m : ℕ) → (c ≡ true → k ≤ m) → cond c k 0 ≤ m

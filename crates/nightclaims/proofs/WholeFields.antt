@@ -11,12 +11,13 @@ use borrow.Author.Tests.{leb-true, le-leb, eqb-true, eqb-false}
 use Rattle.message.specs.Bytes.{word_of}
 use Rattle.portclaims.proofs.Truth.{true_not_false}
 use Rattle.night.specs.declared.Found.{Found}
-use Rattle.night.specs.declared.Laid.{Laid}
 use Rattle.night.specs.Fields.{tag_of, length_of, size_of, is_whole, value_of}
 use Rattle.night.specs.Events.{kind_of, next_of, behind_of, offer_of}
 use Rattle.night.specs.SetUps.{set_up_in}
 use Rattle.playing.specs.declared.Played.{Played}
 use Rattle.playing.specs.Nights.{event_done, field_done, is_readable}
+use Rattle.std.specs.Prelude.{is_some, Option}
+use Rattle.setup.specs.declared.SetUp.{SetUp}
 
 -- ---- a field that can be read is whole, and has at least three bytes
 by_test : (l : List ℕ) (b : Bool) → is_whole l ≡ b → is_readable (next_of l) l ≡ true → is_whole l ≡ true
@@ -95,7 +96,7 @@ module _ (l b : List ℕ) (h : is_whole l ≡ true) where
   readable_by Found.Cut = refl
   readable_by Found.UnknownTag = refl
   readable_by Found.WrongLength = refl
-  readable_by Found.SetUp = ap (λ (laid : Laid). laid.whole) set_up_same
+  readable_by Found.SetUp = ap (λ (laid : Option SetUp). (is_some laid)) set_up_same
   readable_by (Found.Event number e) = refl
   readable_by (Found.Packet number) = refl
   readable_by (Found.NewOffer number) = refl

@@ -47,6 +47,7 @@ use Rattle.nightclaims.specs.Pieces.{played, left_of, in_pieces, joined, read_of
 use Rattle.nightclaims.specs.Happened.{happened_in, no_set_up_in}
 use Rattle.nightclaims.specs.InSupply.{held_in}
 use Rattle.std.specs.Prelude.{Ok}
+use Rattle.setup.specs.SetUps.{verdict_of}
 
 -- docs/NIGHT.md, "An example": 34 bytes of set-up, attach at port 1, the packet `81 00`; and the Request of 5 V 3 A
 abbrev night : List ℕ
@@ -70,7 +71,7 @@ pub it_is_laid_out : (rack_bytes (port ∷ []) 30000 ++ drop 34 night ≡ night)
 unfolding rack_bytes rack_value port_value field_bytes object_bytes four_bytes
 it_is_laid_out = (refl, it_fits)
 
-pub it_is_accepted : (accepted_set_up (set_up_for (port ∷ []) 30000)).verdict ≡ Ok tt
+pub it_is_accepted : verdict_of (accepted_set_up (set_up_for (port ∷ []) 30000)) ≡ Ok tt
 unfolding accepted_set_up good_set_up good_setting good_offer good_from good_object object_at
 it_is_accepted = refl
 

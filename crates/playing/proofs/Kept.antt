@@ -20,7 +20,6 @@ use Rattle.rack.specs.declared.Rack.{Rack}
 use Rattle.rack.specs.Ports.{most_ports, nobody, at, ports_in, in_rack, place_of, loads, others, put}
 use Rattle.rack.specs.Steps.{Happening, answer_at, turned, refused_by, step}
 use Rattle.rack.proofs.Loads.{place_in, place_in_slots, all_but_this}
-use Rattle.setup.specs.declared.Started.{Started}
 use Rattle.setup.specs.SetUps.{accepted_set_up}
 use Rattle.night.specs.declared.Found.{Found}
 use Rattle.night.specs.Fields.{size_of, is_whole}
@@ -34,6 +33,10 @@ use Rattle.playing.specs.Meeting.{held_by, Small}
 use Rattle.playing.proofs.Sums.{rack_in, weighs, small_still, sum_still}
 use Rattle.ground.specs.Refusals.{Verdict}
 use Rattle.std.specs.Prelude.{Ok, Err}
+use Rattle.setup.specs.SetUps.{verdict_of}
+use Rattle.std.specs.Prelude.{is_some, Result}
+use Rattle.night.specs.SetUps.{set_up_or_none}
+use Rattle.ground.specs.declared.Refusal.{Refusal}
 
 -- ---- one field of the definition
 read_on : (n : ℕ) (p : Played) (l : List ℕ) → 0 < n → is_readable (next_of l) l ≡ true → night_in n p l ≡ night_in (n - 1) (field_done (next_of l) p l) (drop (size_of l) l)
@@ -89,7 +92,7 @@ unreadable (Found.Event number x) l e k = true_not_false e
 unreadable (Found.Packet number) l e k = true_not_false e
 unreadable (Found.NewOffer number) l e k = true_not_false e
 
-unlaid : (found : Found) (l : List ℕ) → is_set_up found ≡ true → (set_up_in l).whole ≡ false → is_readable found l ≡ false
+unlaid : (found : Found) (l : List ℕ) → is_set_up found ≡ true → is_some (set_up_in l) ≡ false → is_readable found l ≡ false
 unlaid found l e k = rw (is_set_up_lem found e) k
 
 -- a field that is found is whole
@@ -152,7 +155,7 @@ module _ {r : Rack} {t : Tally} {s : List ℕ} {slots : List Slot} {count supply
   stops : is_readable found f ≡ false → held_by slots count supply tally place ≡ night_in (length s) (begun r t) s
   stops e = sym (inv.rest ∙ read_no_more left (held_by slots count supply tally place) (drop place s) (subst (λ (l : List ℕ). is_readable (next_of l) l ≡ false) isf (subst (λ (x : Found). is_readable x f ≡ false) isfound e)))
 
-  pub stops_unlaid : is_set_up found ≡ true → (set_up_in f).whole ≡ false → held_by slots count supply tally place ≡ night_in (length s) (begun r t) s
+  pub stops_unlaid : is_set_up found ≡ true → is_some (set_up_in f) ≡ false → held_by slots count supply tally place ≡ night_in (length s) (begun r t) s
   stops_unlaid e k = stops (unlaid found f e k)
 
   pub stops_unread : is_event found ≡ false → is_set_up found ≡ false → held_by slots count supply tally place ≡ night_in (length s) (begun r t) s
@@ -230,25 +233,25 @@ module _ {r : Rack} {t : Tally} {s : List ℕ} {slots : List Slot} {count supply
           rw isq (stepped a isa sum' tally' (subst (λ (p : Port). sum' ≡ sum - load_of slot + load_of (u p)) isq issum) (subst (λ (p : Port). load_of (u p) < 4294967296) isq light) istally)
 
   -- a set-up that is laid out as it must be
-  module _ (e : is_set_up found ≡ true) (whole : (set_up_in f).whole ≡ true) (started : Started) (isstarted : started ≡ accepted_set_up (set_up_in f).set_up) (tally' : Tally) (istally : tally' ≡ set_up_told tally started.verdict) where
+  module _ (e : is_set_up found ≡ true) (whole : is_some (set_up_in f) ≡ true) (started : Result Rack Refusal) (isstarted : started ≡ accepted_set_up (set_up_or_none (set_up_in f))) (tally' : Tally) (istally : tally' ≡ set_up_told tally (verdict_of started)) where
     laid : is_readable found f ≡ true
     laid = rw (is_set_up_lem found e) whole
 
-    set_up_there : (v : Verdict) → started.verdict ≡ v → field_done found (held_by slots count supply tally place) f ≡ record { rack = rack_after v started.rack (rack_in slots count supply); tally = tally'; at = place + size_of f }
+    set_up_there : (v : Verdict) → verdict_of started ≡ v → field_done found (held_by slots count supply tally place) f ≡ record { rack = rack_after v (rack_in started) (rack_in slots count supply); tally = tally'; at = place + size_of f }
     unfolding set_up_done
     set_up_there v q = rw (is_set_up_lem found e, ← isstarted, ← istally, ← q) refl
 
-    pub refused_set_up : is_accepted started.verdict ≡ false → Kept r t s slots count supply sum tally' (place + size_of f) (left - 1)
-    refused_set_up n = by_verdict_lem started.verdict refl n
+    pub refused_set_up : is_accepted (verdict_of started) ≡ false → Kept r t s slots count supply sum tally' (place + size_of f) (left - 1)
+    refused_set_up n = by_verdict_lem (verdict_of started) refl n
       where
-        by_verdict_lem : (v : Verdict) → started.verdict ≡ v → is_accepted v ≡ false → Kept r t s slots count supply sum tally' (place + size_of f) (left - 1)
+        by_verdict_lem : (v : Verdict) → verdict_of started ≡ v → is_accepted v ≡ false → Kept r t s slots count supply sum tally' (place + size_of f) (left - 1)
         by_verdict_lem (Ok _) q n = true_not_false n
         by_verdict_lem (Err x) q n = goes_on laid (set_up_reaches e) slots count supply sum tally' (set_up_there (Err x) q) inv.long inv.small inv.sum_is
 
-    pub accepted_set_up_lem : is_accepted started.verdict ≡ true → (sum' : ℕ) → length started.rack.slots ≡ most_ports → (sum' ≡ loads started.rack) × Small started.rack →
-        Kept r t s started.rack.slots started.rack.count started.rack.supply sum' tally' (place + size_of f) (left - 1)
-    accepted_set_up_lem n sum' l m = by_verdict_lem started.verdict refl n
+    pub accepted_set_up_lem : is_accepted (verdict_of started) ≡ true → (sum' : ℕ) → length (rack_in started).slots ≡ most_ports → (sum' ≡ loads (rack_in started)) × Small (rack_in started) →
+        Kept r t s (rack_in started).slots (rack_in started).count (rack_in started).supply sum' tally' (place + size_of f) (left - 1)
+    accepted_set_up_lem n sum' l m = by_verdict_lem (verdict_of started) refl n
       where
-        by_verdict_lem : (v : Verdict) → started.verdict ≡ v → is_accepted v ≡ true → Kept r t s started.rack.slots started.rack.count started.rack.supply sum' tally' (place + size_of f) (left - 1)
-        by_verdict_lem (Ok _) q n = goes_on laid (set_up_reaches e) started.rack.slots started.rack.count started.rack.supply sum' tally' (set_up_there (Ok tt) q) l m.1 m.0
+        by_verdict_lem : (v : Verdict) → verdict_of started ≡ v → is_accepted v ≡ true → Kept r t s (rack_in started).slots (rack_in started).count (rack_in started).supply sum' tally' (place + size_of f) (left - 1)
+        by_verdict_lem (Ok _) q n = goes_on laid (set_up_reaches e) (rack_in started).slots (rack_in started).count (rack_in started).supply sum' tally' (set_up_there (Ok tt) q) l m.1 m.0
         by_verdict_lem (Err x) q n = true_not_false (sym n)

@@ -12,7 +12,6 @@ use Rattle.rack.specs.declared.Rack.{Rack}
 use Rattle.rack.specs.declared.RackAnswer.{RackAnswer}
 use Rattle.rack.specs.Ports.{at, in_rack, place_of}
 use Rattle.rack.specs.Steps.{Happening, event, packet, new_offer, call_of, step}
-use Rattle.setup.specs.declared.Started.{Started}
 use Rattle.setup.specs.SetUps.{accepted_set_up}
 use Rattle.night.specs.declared.Found.{Found}
 use Rattle.night.specs.Fields.{size_of}
@@ -23,6 +22,9 @@ use Rattle.tally.specs.Counts.{told, set_up_told}
 use Rattle.playing.specs.declared.Played.{Played}
 use Rattle.ground.specs.Refusals.{Verdict}
 use Rattle.std.specs.Prelude.{Ok, Err}
+use Rattle.std.specs.Prelude.{is_some, Result}
+use Rattle.night.specs.SetUps.{set_up_or_none}
+use Rattle.ground.specs.declared.Refusal.{Refusal}
 
 -- nothing has been played
 abbrev pub begun : Rack → Tally → Played
@@ -54,14 +56,14 @@ abbrev pub is_accepted : Verdict → Bool
 is_accepted (Ok _) = true
 is_accepted (Err r) = false
 
-unfoldable pub set_up_done : Played → Started → ℕ → Played
+unfoldable pub set_up_done : Played → Result Rack Refusal → ℕ → Played
 set_up_done p s size = record { rack = rack_after s.verdict s.rack p.rack; tally = set_up_told p.tally s.verdict; at = p.at + size }
 
 abbrev pub field_done : Found → Played → List ℕ → Played
 field_done Found.Cut p l = p
 field_done Found.UnknownTag p l = p
 field_done Found.WrongLength p l = p
-field_done Found.SetUp p l = set_up_done p (accepted_set_up (set_up_in l).set_up) (size_of l)
+field_done Found.SetUp p l = set_up_done p (accepted_set_up (set_up_or_none (set_up_in l))) (size_of l)
 field_done (Found.Event number e) p l = event_done p number (event e) l
 field_done (Found.Packet number) p l = event_done p number (packet (behind_of l)) l
 field_done (Found.NewOffer number) p l = event_done p number (new_offer (offer_of l)) l
@@ -71,7 +73,7 @@ abbrev pub is_readable : Found → List ℕ → Bool
 is_readable Found.Cut l = false
 is_readable Found.UnknownTag l = false
 is_readable Found.WrongLength l = false
-is_readable Found.SetUp l = (set_up_in l).whole
+is_readable Found.SetUp l = (is_some (set_up_in l))
 is_readable (Found.Event number e) l = true
 is_readable (Found.Packet number) l = true
 is_readable (Found.NewOffer number) l = true

@@ -10,11 +10,9 @@ ghost use Rattle.slot.specs.Answers.{settled};
 
 use ground::{Refusal, Verdict};
 use offers::Offer;
-use outgoing::Packet;
-use port::{Actions, Answer, Event, GoodCrc, Port, Supply};
+use port::{Actions, Answer, Event, NO_ACTIONS, Port};
 use power::Change;
 use slot::Slot;
-use source::Timer;
 
 // The most ports of a rack.
 pub const PORTS: usize = 32;
@@ -36,21 +34,6 @@ pub struct RackAnswer {
     pub actions: Actions,
     pub held: Change,
 }
-
-const NO_ACTIONS: Actions = Actions {
-    good_crc: GoodCrc {
-        sent: false,
-        bytes: [0u8; 2],
-    },
-    stop: Timer::NoTimer,
-    transmit: Packet {
-        bytes: [0u8; 30],
-        length: 0,
-    },
-    hard_reset: false,
-    supply: Supply::Unchanged,
-    start: Timer::NoTimer,
-};
 
 impl Rack {
     // How many ports there are.
@@ -93,6 +76,7 @@ impl Rack {
     }
 
     // What the other ports take of it.
+    #[tactic(auto, unfolding(crate::specs::Ports::others))]
     fn others(self, i: usize) -> u64
         requires { i < ports_in self }
         ensures { result ≡ others self i }
@@ -102,6 +86,7 @@ impl Rack {
     }
 
     // The port's own answer with the power answer in it; the others are summed only where it has asked.
+    #[tactic(auto, unfolding(slot::specs::Answers::settled))]
     fn settled(self, i: usize, a: Answer) -> Answer
         requires { i < ports_in self }
         ensures { result ≡ settled (at self i) (others self i) self.supply a }
@@ -134,15 +119,11 @@ impl Rack {
         ensures { result ≡ turned self i (settled (at self i) (others self i) self.supply a) }
     {
         let b = self.settled(i, a);
-        let rack = self.put(i, b.port);
-        let verdict = b.verdict;
-        let actions = b.actions;
-        let held = b.held;
         RackAnswer {
-            verdict: verdict,
-            rack: rack,
-            actions: actions,
-            held: held,
+            verdict: b.verdict,
+            rack: self.put(i, b.port),
+            actions: b.actions,
+            held: b.held,
         }
     }
 
@@ -150,50 +131,47 @@ impl Rack {
     fn refused(self, no: Refusal) -> RackAnswer
         ensures { result ≡ refused_by no self }
     {
-        let none = NO_ACTIONS;
         RackAnswer {
-            verdict: Verdict::Refused(no),
+            verdict: Err(no),
             rack: self,
-            actions: none,
+            actions: NO_ACTIONS,
             held: Change::Nothing,
         }
     }
 
     // An event at the port of a number.
+    #[tactic(auto, unfolding(crate::specs::Steps::answer_at, crate::specs::Steps::step))]
     pub fn event(self, number: u8, e: Event) -> RackAnswer
         ensures { result ≡ step self number (event e) }
     {
         if self.has(number) {
             let i = (number - 1) as usize;
-            let s = self.slot(i);
-            let p = s.port;
-            return self.turned(i, p.event(e));
+            return self.turned(i, self.slot(i).port.event(e));
         }
         self.refused(Refusal::NotInRack)
     }
 
     // A packet, any bytes, at the port of a number.
+    #[tactic(auto, unfolding(crate::specs::Steps::answer_at, crate::specs::Steps::step))]
     pub fn packet(self, number: u8, bytes: &[u8]) -> RackAnswer
         ensures { result ≡ step self number (packet bytes.now) }
     {
         if self.has(number) {
             let i = (number - 1) as usize;
-            let s = self.slot(i);
-            let p = s.port;
-            return self.turned(i, p.packet(bytes));
+            return self.turned(i, self.slot(i).port.packet(bytes));
         }
         self.refused(Refusal::NotInRack)
     }
 
     // A new offer, any objects, for the port of a number.
+    #[tactic(auto, unfolding(crate::specs::Steps::answer_at, crate::specs::Steps::step))]
     pub fn new_offer(self, number: u8, o: Offer) -> RackAnswer
         ensures { result ≡ step self number (new_offer o) }
     {
         if self.has(number) {
             let i = (number - 1) as usize;
             let s = self.slot(i);
-            let p = s.port;
-            return self.turned(i, p.new_offer(s.limit, o));
+            return self.turned(i, s.port.new_offer(s.limit, o));
         }
         self.refused(Refusal::NotInRack)
     }

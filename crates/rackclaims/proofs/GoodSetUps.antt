@@ -16,6 +16,7 @@ use Rattle.setup.specs.declared.SetUp.{SetUp}
 use Rattle.setup.specs.SetUps.{least, largest_limit, no_setting, setting, good_setting, everywhere, shares, good_count, good_supply, good_set_up, slot_of, rack_of, judged, accepted_set_up}
 use Rattle.portclaims.proofs.Truth.{true_not_false, first, second}
 use Rattle.std.specs.Prelude.{Ok}
+use Rattle.setup.specs.SetUps.{verdict_of, rack_in}
 
 -- something that holds everywhere holds at each place
 each : (f : ℕ → Bool) (n i : ℕ) → everywhere f n ≡ true → i < n → f i ≡ true
@@ -38,11 +39,11 @@ module _ (u : SetUp) where
   by_test true e f = e
   by_test false e f = cc
 
-  pub accepted_is_good : (accepted_set_up u).verdict ≡ Ok tt → good_set_up u ≡ true
+  pub accepted_is_good : verdict_of (accepted_set_up u) ≡ Ok tt → good_set_up u ≡ true
   unfolding accepted_set_up
   accepted_is_good e = by_test (good_set_up u) refl e
 
-  pub good_is_set_up : good_set_up u ≡ true → (accepted_set_up u).rack ≡ rack_of u
+  pub good_is_set_up : good_set_up u ≡ true → rack_in (accepted_set_up u) ≡ rack_of u
   unfolding accepted_set_up
   good_is_set_up e = rw e refl
 

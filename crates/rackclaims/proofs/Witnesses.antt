@@ -48,6 +48,7 @@ use Rattle.rackclaims.proofs.Settling.{asks}
 use Rattle.rackclaims.proofs.Neighbours.{others_stay}
 use Rattle.reading.specs.Reading.{message_with}
 use Rattle.std.specs.Prelude.{Ok, Err}
+use Rattle.setup.specs.SetUps.{verdict_of, rack_in}
 
 -- the fields of a receiver's first Request
 abbrev asks_once : Fields
@@ -81,7 +82,7 @@ abbrev is_gone : List Happens
 is_gone = has_less ++ (to1 (event Event.Detach) ∷ [])
 
 abbrev held_at : ℕ → List Happens → ℕ
-held_at number es = held_by number (history (accepted_set_up Desk.night_desk).rack es)
+held_at number es = held_by number (history (rack_in (accepted_set_up Desk.night_desk)) es)
 
 -- port 1 hears a Hard Reset, and Default is reached; or its PS_RDY goes out
 abbrev resetting : Rack
@@ -103,7 +104,7 @@ beside = (step desk 4 (event Event.Attach)).rack
 
 pub record Worked : Type 0 where
   -- a set-up that is accepted, and two that are not
-  pub set_ups : ((accepted_set_up Desk.night_desk).verdict ≡ Ok tt) × ((accepted_set_up too_little).verdict ≡ Err BadSetUp) × ((accepted_set_up nothing_offered).verdict ≡ Err BadSetUp)
+  pub set_ups : (verdict_of (accepted_set_up Desk.night_desk) ≡ Ok tt) × (verdict_of (accepted_set_up too_little) ≡ Err BadSetUp) × (verdict_of (accepted_set_up nothing_offered) ≡ Err BadSetUp)
   -- SupplyHolds, HeldByHistory: what the ports hold by the history of that night; and what port 1 then holds: the larger, what is in force, nothing
   pub held_that_night : (held_at 1 night ≡ 120000) × (held_at 2 night ≡ 54000) × (held_at 3 night ≡ 36000) × (held_at 4 night ≡ 0)
   pub held_in_the_end : (held_at 1 asks_less ≡ 120000) × (held_at 1 has_less ≡ 30000) × (held_at 1 is_gone ≡ 0)

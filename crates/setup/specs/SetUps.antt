@@ -10,8 +10,10 @@ use Rattle.rack.specs.declared.Rack.{Rack}
 use Rattle.rack.specs.Ports.{most_ports, total}
 use Rattle.setup.specs.declared.Setting.{Setting}
 use Rattle.setup.specs.declared.SetUp.{SetUp}
-use Rattle.setup.specs.declared.Started.{Started}
 use Rattle.std.specs.Prelude.{Ok, Err}
+use Rattle.std.specs.Prelude.{Result}
+use Rattle.ground.specs.Refusals.{Verdict}
+use Rattle.ground.specs.declared.Refusal.{Refusal}
 
 -- a supply and a share
 abbrev pub least : ℕ
@@ -63,9 +65,18 @@ rack_of u = record { slots = map slot_of u.settings; count = u.count; supply = u
 abbrev pub no_rack : Rack
 no_rack = record { slots = replicate most_ports (record { port = detached_port no_offer; share = 0; limit = 0 }); count = 0; supply = 0 }
 
-abbrev pub judged : Bool → SetUp → Started
-judged true u = record { verdict = Ok tt; rack = rack_of u }
-judged false u = record { verdict = Err BadSetUp; rack = no_rack }
+abbrev pub judged : Bool → SetUp → Result Rack Refusal
+judged true u = Ok (rack_of u)
+judged false u = Err BadSetUp
 
-unfoldable pub accepted_set_up : SetUp → Started
+unfoldable pub accepted_set_up : SetUp → Result Rack Refusal
 accepted_set_up u = judged (good_set_up u) u
+
+-- its verdict, and the rack that there is then
+abbrev pub verdict_of : Result Rack Refusal → Verdict
+verdict_of (Ok r) = Ok tt
+verdict_of (Err no') = Err no'
+
+abbrev pub rack_in : Result Rack Refusal → Rack
+rack_in (Ok r) = r
+rack_in (Err no') = no_rack

@@ -5,8 +5,8 @@
 ghost use Rattle.std.specs.Prelude.{◌≡◌, map};
 ghost use Rattle.setup.specs.SetUps.{good_setting, good_set_up, slot_of, no_rack, accepted_set_up};
 
-use ground::{Refusal, Verdict};
-use offers::Offer;
+use ground::Refusal;
+use offers::{NO_OFFER, Offer};
 use port::Port;
 use rack::{PORTS, Rack};
 use slot::Slot;
@@ -34,19 +34,8 @@ pub struct SetUp {
     pub supply: u32,
 }
 
-// Fine and the rack, or refused and a rack without ports.
-#[derive(Clone, Copy)]
-pub struct Started {
-    pub verdict: Verdict,
-    pub rack: Rack,
-}
-
-const NO_OFFER: Offer = Offer {
-    objects: [0u32; 7],
-    count: 0,
-};
-
 // Whether a port may stand in a set-up.
+#[tactic(auto, unfolding(crate::specs::SetUps::good_setting))]
 fn good_setting(s: Setting) -> bool
     ensures { result ≡ good_setting s }
 {
@@ -84,10 +73,8 @@ pub fn good(u: SetUp) -> bool
 fn slot_of(s: Setting) -> Slot
     ensures { result ≡ slot_of s }
 {
-    let o = s.offer;
-    let port = Port::new(o);
     Slot {
-        port: port,
+        port: Port::new(s.offer),
         share: s.share,
         limit: s.limit,
     }
@@ -107,45 +94,33 @@ fn slots_of(settings: [Setting; PORTS]) -> [Slot; PORTS]
     slots
 }
 
-// A rack without ports.
-fn no_rack() -> Rack
+// A rack without ports, which is there before the first set-up.
+pub fn no_rack() -> Rack
     ensures { result ≡ no_rack }
 {
-    let offer = NO_OFFER;
-    let port = Port::new(offer);
     let nobody = Slot {
-        port: port,
+        port: Port::new(NO_OFFER),
         share: 0,
         limit: 0,
     };
-    let slots = [nobody; PORTS];
     Rack {
-        slots: slots,
+        slots: [nobody; PORTS],
         count: 0,
         supply: 0,
     }
 }
 
 // The rack of a set-up, every port detached; a bad set-up is refused, and nothing is set up.
-pub fn set_up(u: SetUp) -> Started
+#[tactic(auto, unfolding(crate::specs::SetUps::accepted_set_up))]
+pub fn set_up(u: SetUp) -> Result<Rack, Refusal>
     ensures { result ≡ accepted_set_up u }
 {
-    if good(u) {
-        let settings = u.settings;
-        let slots = slots_of(settings);
-        let rack = Rack {
-            slots: slots,
-            count: u.count,
-            supply: u.supply,
-        };
-        return Started {
-            verdict: Verdict::Fine,
-            rack: rack,
-        };
+    if !good(u) {
+        return Err(Refusal::BadSetUp);
     }
-    let rack = no_rack();
-    Started {
-        verdict: Verdict::Refused(Refusal::BadSetUp),
-        rack: rack,
-    }
+    Ok(Rack {
+        slots: slots_of(u.settings),
+        count: u.count,
+        supply: u.supply,
+    })
 }

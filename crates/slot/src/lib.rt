@@ -21,23 +21,14 @@ fn has_room(others: u64, load: u32, supply: u32) -> bool
     ensures { result ≡ leb (others + load) supply }
 {
     let all = supply as u64;
-    if all < others {
-        return false;
-    }
-    load as u64 <= all - others
+    others <= all && load as u64 <= all - others
 }
 
 // Whether a port has come to ask the power rule.
 pub fn has_asked(before: Port, after: Port) -> bool
     ensures { result ≡ has_asked before after }
 {
-    let earlier = before.phase;
-    let later = after.phase;
-    let was = earlier.state;
-    let is = later.state;
-    let judged = source::judging(was);
-    let judges = source::judging(is);
-    !judged & judges
+    !source::judging(before.state) & source::judging(after.state)
 }
 
 fn answer_of(yes: bool) -> Event
@@ -50,28 +41,13 @@ fn answer_of(yes: bool) -> Event
 fn joined(a: Answer, b: Answer) -> Answer
     ensures { result ≡ joined a b }
 {
-    let verdict = b.verdict;
-    let port = b.port;
-    let first = a.actions;
-    let second = b.actions;
-    let crc = first.good_crc;
-    let stop = first.stop;
-    let transmit = second.transmit;
-    let supply = second.supply;
-    let start = second.start;
-    let held = b.held;
     Answer {
-        verdict: verdict,
-        port: port,
         actions: Actions {
-            good_crc: crc,
-            stop: stop,
-            transmit: transmit,
-            hard_reset: second.hard_reset,
-            supply: supply,
-            start: start,
+            good_crc: a.actions.good_crc,
+            stop: a.actions.stop,
+            ..b.actions
         },
-        held: held,
+        ..b
     }
 }
 
@@ -84,23 +60,24 @@ impl Slot {
     }
 
     // The power rule, for a port beside others that take so much of the supply.
+    #[tactic(auto, unfolding(crate::specs::Load::approves))]
     pub fn approves(self, others: u64, supply: u32, asked: u32) -> bool
         ensures { result ≡ approves self others supply asked }
     {
         let load = ground::larger(self.load(), asked);
-        let room = has_room(others, load, supply);
-        (asked <= self.limit) & room
+        (asked <= self.limit) & has_room(others, load, supply)
     }
 
     // The port's own answer to an event; with the power answer where it has asked.
+    #[tactic(auto, unfolding(crate::specs::Answers::judged, crate::specs::Answers::settled))]
     pub fn settles(self, a: Answer, others: u64, supply: u32) -> Answer
         ensures { result ≡ settled self others supply a }
     {
-        let after = a.port;
-        if has_asked(self.port, after) {
-            let yes = self.approves(others, supply, after.power.accepted.worth);
-            return joined(a, after.event(answer_of(yes)));
+        if has_asked(self.port, a.port) {
+            let yes = self.approves(others, supply, a.port.power.accepted.worth);
+            joined(a, a.port.event(answer_of(yes)))
+        } else {
+            a
         }
-        a
     }
 }

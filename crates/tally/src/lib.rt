@@ -10,7 +10,8 @@ ghost use Rattle.tally.specs.Counts.{one_more, no_tally, comes_to, counted_if, t
 
 use ground::Verdict;
 use outgoing::Packet;
-use port::{Actions, GoodCrc, Supply};
+use port::{Actions, Supply};
+use sending::HeaderBytes;
 use source::{State, Timer};
 
 #[derive(Clone, Copy)]
@@ -50,40 +51,40 @@ pub fn verdict_number(v: Verdict) -> u8
     ensures { (result ≡ verdict_number v) × (result < 11) }
 {
     match v {
-        Verdict::Fine => 0,
-        Verdict::Refused(r) => ground::number(r),
+        Ok(()) => 0,
+        Err(r) => ground::number(r),
     }
 }
 
-fn timer_number(t: Timer) -> u8
+fn timer_number(t: Option<Timer>) -> u8
     ensures { result ≡ timer_number t }
 {
     match t {
-        Timer::NoTimer => 0,
-        Timer::SenderResponse => 1,
-        Timer::SourceCapability => 2,
-        Timer::PsHardReset => 3,
+        None => 0,
+        Some(Timer::SenderResponse) => 1,
+        Some(Timer::SourceCapability) => 2,
+        Some(Timer::PsHardReset) => 3,
     }
 }
 
-fn supply_number(x: Supply) -> u8
+fn supply_number(x: Option<Supply>) -> u8
     ensures { result ≡ supply_number x }
 {
     match x {
-        Supply::Unchanged => 0,
-        Supply::Default => 255,
-        Supply::Position(n) => n,
+        None => 0,
+        Some(Supply::Default) => 255,
+        Some(Supply::Position(n)) => n,
     }
 }
 
-fn crc_number(c: GoodCrc) -> u32
+#[tactic(auto, unfolding(crate::specs::Checksum::crc_number))]
+fn crc_number(c: Option<HeaderBytes>) -> u32
     ensures { result ≡ crc_number c }
 {
-    let bytes = c.bytes;
-    if c.sent {
-        return message::word(&bytes) as u32;
+    match c {
+        None => 0,
+        Some(bytes) => message::word(&bytes) as u32,
     }
-    0
 }
 
 fn bit(b: bool) -> u32
@@ -206,16 +207,12 @@ impl Tally {
     pub fn set_up_told(self, v: Verdict) -> Tally
         ensures { result ≡ set_up_told self v }
     {
-        let verdicts = self.verdicts;
-        let k = verdict_number(v);
+        let k = verdict_number(v) as usize;
         let mut t = self;
         t.checksum = mixed(self.checksum, k as u32);
-        match v {
-            Verdict::Fine => t,
-            Verdict::Refused(_) => {
-                t.verdicts[k as usize] = one_more(verdicts[k as usize]);
-                t
-            }
+        if v.is_err() {
+            t.verdicts[k] = one_more(t.verdicts[k]);
         }
+        t
     }
 }
