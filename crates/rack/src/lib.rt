@@ -76,7 +76,6 @@ impl Rack {
     }
 
     // What the other ports take of it.
-    #[tactic(auto, unfolding(crate::specs::Ports::others))]
     fn others(self, i: usize) -> u64
         requires { i < ports_in self }
         ensures { result ≡ others self i }
@@ -140,7 +139,6 @@ impl Rack {
     }
 
     // An event at the port of a number.
-    #[tactic(auto, unfolding(crate::specs::Steps::answer_at, crate::specs::Steps::step))]
     pub fn event(self, number: u8, e: Event) -> RackAnswer
         ensures { result ≡ step self number (event e) }
     {
@@ -152,7 +150,6 @@ impl Rack {
     }
 
     // A packet, any bytes, at the port of a number.
-    #[tactic(auto, unfolding(crate::specs::Steps::answer_at, crate::specs::Steps::step))]
     pub fn packet(self, number: u8, bytes: &[u8]) -> RackAnswer
         ensures { result ≡ step self number (packet bytes.now) }
     {
@@ -164,7 +161,6 @@ impl Rack {
     }
 
     // A new offer, any objects, for the port of a number.
-    #[tactic(auto, unfolding(crate::specs::Steps::answer_at, crate::specs::Steps::step))]
     pub fn new_offer(self, number: u8, o: Offer) -> RackAnswer
         ensures { result ≡ step self number (new_offer o) }
     {
