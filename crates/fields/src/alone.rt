@@ -3,10 +3,9 @@
 ghost use Rattle.std.specs.Prelude.{◌≡◌};
 ghost use Rattle.fields.specs.PortAlone.{elsewhere, answered_alone, alone_of};
 
-use crate::NO_ACTIONS;
 use ground::Verdict;
 use night::Found;
-use port::{Actions, Answer};
+use port::{Actions, Answer, NO_ACTIONS};
 use slot::Slot;
 
 #[derive(Clone, Copy)]
@@ -25,11 +24,10 @@ pub struct Alone {
 fn elsewhere(t: Slot) -> Alone
     ensures { result ≡ elsewhere t }
 {
-    let none = NO_ACTIONS;
     Alone {
         settled: false,
-        verdict: Verdict::Fine,
-        actions: none,
+        verdict: Ok(()),
+        actions: NO_ACTIONS,
         slot: t,
         size: 0,
     }
@@ -39,21 +37,12 @@ fn elsewhere(t: Slot) -> Alone
 fn answered(t: Slot, here: bool, a: Answer, size: usize) -> Alone
     ensures { result ≡ answered_alone t here a size }
 {
-    let q = a.port;
-    let verdict = a.verdict;
-    let actions = a.actions;
-    let asked = slot::has_asked(t.port, q);
-    let next = Slot {
-        port: q,
-        share: t.share,
-        limit: t.limit,
-    };
     Alone {
-        settled: here & !asked,
-        verdict: verdict,
-        actions: actions,
-        slot: next,
-        size: size,
+        settled: here & !slot::has_asked(t.port, a.port),
+        verdict: a.verdict,
+        actions: a.actions,
+        slot: Slot { port: a.port, ..t },
+        size,
     }
 }
 
@@ -65,10 +54,7 @@ pub fn at_port(t: Slot, number: u8, s: &[u8]) -> Alone
     let size = night::size(s);
     let p = t.port;
     match found {
-        Found::Cut => elsewhere(t),
-        Found::UnknownTag => elsewhere(t),
-        Found::WrongLength => elsewhere(t),
-        Found::SetUp => elsewhere(t),
+        Found::Cut | Found::UnknownTag | Found::WrongLength | Found::SetUp => elsewhere(t),
         Found::Event(n, e) => answered(t, n == number, p.event(e), size),
         Found::Packet(n) => answered(t, n == number, p.packet(night::behind(s)), size),
         Found::NewOffer(n) => {

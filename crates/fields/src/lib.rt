@@ -8,13 +8,10 @@ ghost use Rattle.fields.specs.Answers.{rack_after, unread, event_field, started_
 ghost use Rattle.fields.specs.Endings.{ending_by, ending_of};
 ghost use Rattle.fields.specs.Keeping.{part_in, Kept, goes_on, CarriedOver};
 
-use ground::Verdict;
+use ground::{Refusal, Verdict};
 use night::Found;
-use outgoing::Packet;
-use port::{Actions, GoodCrc, Supply};
+use port::{Actions, NO_ACTIONS};
 use rack::{Rack, RackAnswer};
-use setup::Started;
-use source::Timer;
 
 pub mod alone;
 
@@ -53,31 +50,15 @@ pub struct Left {
     pub kept: usize,
 }
 
-pub(crate) const NO_ACTIONS: Actions = Actions {
-    good_crc: GoodCrc {
-        sent: false,
-        bytes: [0u8; 2],
-    },
-    stop: Timer::NoTimer,
-    transmit: Packet {
-        bytes: [0u8; 30],
-        length: 0,
-    },
-    hard_reset: false,
-    supply: Supply::Unchanged,
-    start: Timer::NoTimer,
-};
-
 // A field that cannot be read changes nothing, and the reading stays before it.
 fn unread(found: Found, r: Rack) -> Field
     ensures { result ≡ unread found r }
 {
-    let none = NO_ACTIONS;
     Field {
-        found: found,
+        found,
         read: false,
-        verdict: Verdict::Fine,
-        actions: none,
+        verdict: Ok(()),
+        actions: NO_ACTIONS,
         rack: r,
         size: 0,
     }
@@ -87,43 +68,31 @@ fn unread(found: Found, r: Rack) -> Field
 fn answered(found: Found, a: RackAnswer, size: usize) -> Field
     ensures { result ≡ event_field found a size }
 {
-    let verdict = a.verdict;
-    let actions = a.actions;
-    let rack = a.rack;
     Field {
-        found: found,
+        found,
         read: true,
-        verdict: verdict,
-        actions: actions,
-        rack: rack,
-        size: size,
+        verdict: a.verdict,
+        actions: a.actions,
+        rack: a.rack,
+        size,
     }
 }
 
-// The rack that there is once a set-up was tried.
-fn rack_after(v: Verdict, new: Rack, old: Rack) -> Rack
-    ensures { result ≡ rack_after v new old }
-{
-    match v {
-        Verdict::Fine => new,
-        Verdict::Refused(_) => old,
-    }
-}
-
-fn started(r: Rack, s: Started, size: usize) -> Field
+// A set-up that was tried: where it is a bad one, the rack stays.
+fn started(r: Rack, s: Result<Rack, Refusal>, size: usize) -> Field
     ensures { result ≡ started_field r s size }
 {
-    let none = NO_ACTIONS;
-    let verdict = s.verdict;
-    let new = s.rack;
-    let rack = rack_after(verdict, new, r);
+    let (verdict, rack) = match s {
+        Ok(new) => (Ok(()), new),
+        Err(no) => (Err(no), r),
+    };
     Field {
         found: Found::SetUp,
         read: true,
-        verdict: verdict,
-        actions: none,
-        rack: rack,
-        size: size,
+        verdict,
+        actions: NO_ACTIONS,
+        rack,
+        size,
     }
 }
 
@@ -131,12 +100,10 @@ fn started(r: Rack, s: Started, size: usize) -> Field
 fn set_up(r: Rack, s: &[u8], size: usize) -> Field
     ensures { result ≡ set_up_field r s.now size }
 {
-    let laid = night::set_up(s);
-    if laid.whole {
-        let u = laid.set_up;
-        return started(r, setup::set_up(u), size);
+    match night::set_up(s) {
+        Some(u) => started(r, setup::set_up(u), size),
+        None => unread(Found::SetUp, r),
     }
-    unread(Found::SetUp, r)
 }
 
 // What the first field of some bytes comes to over a rack.
@@ -146,9 +113,7 @@ pub fn first(r: Rack, s: &[u8]) -> Field
     let found = night::next(s);
     let size = night::size(s);
     match found {
-        Found::Cut => unread(found, r),
-        Found::UnknownTag => unread(found, r),
-        Found::WrongLength => unread(found, r),
+        Found::Cut | Found::UnknownTag | Found::WrongLength => unread(found, r),
         Found::SetUp => set_up(r, s, size),
         Found::Event(number, e) => answered(found, r.event(number, e), size),
         Found::Packet(number) => answered(found, r.packet(number, night::behind(s)), size),
@@ -163,15 +128,8 @@ fn ending_by(found: Found, laid: bool) -> Ending
         Found::Cut => Ending::Cut,
         Found::UnknownTag => Ending::UnknownTag,
         Found::WrongLength => Ending::WrongLength,
-        Found::SetUp => {
-            if laid {
-                return Ending::Readable;
-            }
-            Ending::NotLaid
-        }
-        Found::Event(_, _) => Ending::Readable,
-        Found::Packet(_) => Ending::Readable,
-        Found::NewOffer(_) => Ending::Readable,
+        Found::SetUp if !laid => Ending::NotLaid,
+        _ => Ending::Readable,
     }
 }
 
@@ -182,8 +140,7 @@ fn ending_of(s: &[u8]) -> Ending
     if s.len() == 0 {
         return Ending::Whole;
     }
-    let laid = night::set_up(s);
-    ending_by(night::next(s), laid.whole)
+    ending_by(night::next(s), night::set_up(s).is_some())
 }
 
 // Moves the bytes from one place to another to the front, and hands back how many they are.
@@ -224,14 +181,7 @@ fn part(s: &[u8], at: usize, end: usize) -> &[u8]
 fn goes_on(e: Ending) -> bool
     ensures { result ≡ goes_on e }
 {
-    match e {
-        Ending::Whole => true,
-        Ending::Cut => true,
-        Ending::UnknownTag => false,
-        Ending::WrongLength => false,
-        Ending::NotLaid => false,
-        Ending::Readable => true,
-    }
+    matches!(e, Ending::Whole | Ending::Cut | Ending::Readable)
 }
 
 // What is left of a piece that ends at one place and is answered up to another: why the reading stopped there, and,

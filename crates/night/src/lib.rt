@@ -43,6 +43,7 @@ pub(crate) fn length(s: &[u8]) -> usize
 }
 
 // How many bytes a field has.
+#[tactic(auto, unfolding(crate::specs::Fields::size_of))]
 pub fn size(s: &[u8]) -> usize
     ensures { result ≡ size_of s.now }
 {
@@ -61,6 +62,7 @@ pub(crate) fn value(s: &[u8]) -> &[u8]
 }
 
 // A number of four bytes at a place, least byte first.
+#[tactic(auto, unfolding(crate::specs::Fields::number_at))]
 pub(crate) fn number(s: &[u8], at: usize) -> u32
     ensures { result ≡ number_at s.now at }
 {
@@ -70,6 +72,7 @@ pub(crate) fn number(s: &[u8], at: usize) -> u32
 }
 
 // The event of a tag that has nothing behind the port's number.
+#[tactic(auto, unfolding(crate::specs::Events::event_of))]
 fn event_of(tag: u8) -> Event
     ensures { result ≡ event_of tag }
 {
@@ -96,6 +99,7 @@ fn if_fits(fits: bool, n: Found) -> Found
 
 // What a whole field is: by its tag, the length of its value, and the value's first byte. The tags that
 // have a length of their own come before the row of events.
+#[tactic(auto, unfolding(crate::specs::Events::kind_of))]
 fn kind(tag: u8, length: usize, port: u8) -> Found
     ensures { result ≡ kind_of tag length port }
 {
@@ -115,6 +119,7 @@ fn kind(tag: u8, length: usize, port: u8) -> Found
 }
 
 // The next field of some bytes.
+#[tactic(auto, unfolding(crate::specs::Events::next_of, crate::specs::Fields::tag_of, crate::specs::Fields::is_whole))]
 pub fn next(s: &[u8]) -> Found
     ensures { result ≡ next_of s.now }
 {
@@ -147,6 +152,7 @@ fn object_count(bytes: usize) -> u8
 }
 
 // Some bytes as an offer, four to an object.
+#[tactic(auto, unfolding(crate::specs::Fields::offer_in))]
 pub(crate) fn offer_in(o: &[u8]) -> Offer
     ensures { result ≡ offer_in o.now }
 {
@@ -166,6 +172,7 @@ pub(crate) fn offer_in(o: &[u8]) -> Offer
 }
 
 // The offer of a new offer's field.
+#[tactic(auto, unfolding(crate::specs::Events::offer_of))]
 pub fn offer(s: &[u8]) -> Offer
     ensures { result ≡ offer_of s.now }
 {
@@ -173,6 +180,7 @@ pub fn offer(s: &[u8]) -> Offer
 }
 
 // The set-up of a rack group; none where it is not laid out as it must be.
+#[tactic(auto, unfolding(crate::specs::SetUps::set_up_in))]
 pub fn set_up(s: &[u8]) -> Option<SetUp>
     ensures { result ≡ set_up_in s.now }
 {

@@ -7,6 +7,7 @@ use rack::PORTS;
 use setup::{SetUp, Setting};
 
 // Whether a field's tag and length stand at a place.
+#[tactic(auto, unfolding(crate::specs::Fields::tag_of, crate::specs::SetUps::head_is))]
 fn head_is(s: &[u8], at: usize, tag: u8, length: usize) -> bool
     ensures { result ≡ head_is s.now at tag length }
 {
@@ -16,6 +17,7 @@ fn head_is(s: &[u8], at: usize, tag: u8, length: usize) -> bool
 }
 
 // Whether a port group's value is share, limit and offer objects.
+#[tactic(auto, unfolding(crate::specs::SetUps::is_setting))]
 fn is_setting(v: &[u8]) -> bool
     ensures { result ≡ is_setting v.now }
 {
@@ -31,6 +33,7 @@ fn is_setting(v: &[u8]) -> bool
 }
 
 // What such a value says.
+#[tactic(auto, unfolding(crate::specs::SetUps::setting_of))]
 fn setting_of(v: &[u8]) -> Setting
     ensures { result ≡ setting_of v.now }
 {
@@ -43,6 +46,7 @@ fn setting_of(v: &[u8]) -> Setting
 }
 
 // Whether a port group stands here, whole.
+#[tactic(auto, unfolding(crate::specs::Fields::tag_of, crate::specs::SetUps::is_port))]
 fn is_port(s: &[u8]) -> bool
     ensures { result ≡ is_port s.now }
 {
@@ -52,6 +56,7 @@ fn is_port(s: &[u8]) -> bool
 }
 
 // Whether the supply stands here, and nothing behind it.
+#[tactic(auto, unfolding(crate::specs::SetUps::is_supply))]
 fn is_supply(s: &[u8]) -> bool
     ensures { result ≡ is_supply s.now }
 {
@@ -68,6 +73,7 @@ fn counted(count: u8) -> u8
 }
 
 // A set-up with one port more. One past the most is counted, and has no place.
+#[tactic(auto, unfolding(crate::specs::SetUps::placed))]
 fn placed(u: SetUp, s: Setting) -> SetUp
     ensures { result ≡ placed u s }
 {

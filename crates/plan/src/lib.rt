@@ -8,8 +8,9 @@ ghost use Rattle.plan.specs.Plans.{met_event, met_packet, met_offer, done_of};
 
 use ground::{Refusal, Verdict};
 use offers::{Asked, Offer};
-use port::{Answer, Event, GoodCrc, Port};
+use port::{Answer, Event, Port};
 use power::Change;
+use sending::HeaderBytes;
 use slot::Slot;
 use source::{Heard, Stimulus, Timer, Way};
 
@@ -42,7 +43,7 @@ pub enum Cue {
 pub struct Met {
     pub cue: Cue,
     pub prior: Prior,
-    pub crc: GoodCrc,
+    pub crc: Option<HeaderBytes>,
     pub asked: Asked,
 }
 
@@ -51,8 +52,8 @@ pub struct Met {
 pub struct Plan {
     pub verdict: Verdict,
     pub prior: Prior,
-    pub crc: GoodCrc,
-    pub runs: Timer,
+    pub crc: Option<HeaderBytes>,
+    pub runs: Option<Timer>,
     pub change: Change,
     pub way: Way,
     // Whether the power rule is asked.
@@ -64,8 +65,7 @@ pub struct Plan {
 pub fn event(p: Port, e: Event) -> Met
     ensures { result ≡ met_event p.channel e }
 {
-    let c = p.channel;
-    meeting::event(c, e)
+    meeting::event(p.channel, e)
 }
 
 // A packet comes to a port.
@@ -87,7 +87,6 @@ pub fn new_offer(limit: u32, o: Offer) -> Met
 pub fn done(t: Slot, o: Offer, m: Met, others: u64, supply: u32) -> Answer
     ensures { result ≡ done_of t o m others supply }
 {
-    let p = t.port;
-    let x = deciding::decided(p, m);
-    doing::by_verdict(p, o, deciding::settled(t, x, others, supply))
+    let x = deciding::decided(t.port, m);
+    doing::by_verdict(t.port, o, deciding::settled(t, x, others, supply))
 }

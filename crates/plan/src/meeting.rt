@@ -10,33 +10,19 @@ use channel::{Channel, Outcome};
 use ground::Refusal;
 use meaning::Meaning;
 use message::Fields;
-use offers::{Asked, Fit, Offer};
-use port::{Event, GoodCrc, Port, packets};
-use reading::Reading;
+use offers::{Asked, Offer};
+use port::{Event, Port, packets};
+use power::NOTHING_ASKED;
 use source::Stimulus;
-
-pub(crate) const NO_CRC: GoodCrc = GoodCrc {
-    sent: false,
-    bytes: [0u8; 2],
-};
-
-pub(crate) const NOTHING_ASKED: Asked = Asked {
-    position: 0,
-    voltage: 0,
-    current: 0,
-    worth: 0,
-};
 
 fn plain(cue: Cue, prior: Prior) -> Met
     ensures { result ≡ plain cue prior }
 {
-    let crc = NO_CRC;
-    let asked = NOTHING_ASKED;
     Met {
-        cue: cue,
-        prior: prior,
-        crc: crc,
-        asked: asked,
+        cue,
+        prior,
+        crc: None,
+        asked: NOTHING_ASKED,
     }
 }
 
@@ -85,56 +71,39 @@ pub(crate) fn event(c: Channel, e: Event) -> Met
 fn repeat(f: Fields) -> Met
     ensures { result ≡ met_repeat f }
 {
-    let crc = packets::crc_for(f);
-    let asked = NOTHING_ASKED;
     Met {
         cue: Cue::Done,
         prior: Prior::Nothing,
-        crc: crc,
-        asked: asked,
+        crc: packets::crc_for(f),
+        asked: NOTHING_ASKED,
     }
 }
 
-fn new_packet(f: Fields, m: Meaning, fit: Fit) -> Met
+fn new_packet(f: Fields, m: Meaning, fit: Option<Asked>) -> Met
     ensures { result ≡ met_new f m fit }
 {
-    let crc = packets::crc_for(f);
-    let asked = packets::asked_by(fit);
-    let heard = packets::heard_as(m, f.message_type, fit);
-    let soft = packets::is_soft_reset(m);
     Met {
-        cue: Cue::Hears(heard),
-        prior: Prior::Heard(f.message_id, soft),
-        crc: crc,
-        asked: asked,
+        cue: Cue::Hears(packets::heard_as(m, f.message_type, fit)),
+        prior: Prior::Heard(f.message_id, packets::is_soft_reset(m)),
+        crc: packets::crc_for(f),
+        asked: packets::asked_by(fit),
     }
 }
 
 fn is_good_crc(m: Meaning) -> bool
     ensures { result ≡ is_good_crc m }
 {
-    match m {
-        Meaning::Unsupported => false,
-        Meaning::GoodCrc => true,
-        Meaning::Reply => false,
-        Meaning::GetSourceCap => false,
-        Meaning::SoftReset => false,
-        Meaning::Quiet => false,
-        Meaning::Request => false,
-    }
+    m == Meaning::GoodCrc
 }
 
 // By what a packet means; whether a Request fits is asked only of a new packet.
 fn by_meaning(m: Meaning, p: Port, f: Fields, objects: u8, request: u32) -> Met
     ensures { result ≡ met_meaning m p f (fit_of objects request p.last) }
 {
-    let c = p.channel;
     if is_good_crc(m) {
-        return outcome(c.good_crc(f.message_id), Cue::Done);
+        return outcome(p.channel.good_crc(f.message_id), Cue::Done);
     }
-    let repeats = c.repeats(f.message_id);
-    let soft = packets::is_soft_reset(m);
-    if repeats & !soft {
+    if p.channel.repeats(f.message_id) & !packets::is_soft_reset(m) {
         return repeat(f);
     }
     new_packet(f, m, offers::judge(objects, request, p.last))
@@ -143,28 +112,22 @@ fn by_meaning(m: Meaning, p: Port, f: Fields, objects: u8, request: u32) -> Met
 fn message(p: Port, objects: u8, f: Fields, request: u32) -> Met
     ensures { result ≡ met_message p objects f (fit_of objects request p.last) }
 {
-    let phase = p.phase;
-    let s = phase.state;
-    if source::listens(s) {
-        return by_meaning(packets::meaning_in(objects, f), p, f, objects, request);
+    if source::listens(p.state) {
+        by_meaning(packets::meaning_in(objects, f), p, f, objects, request)
+    } else {
+        plain(Cue::Refused(Refusal::NotAwaited), Prior::Nothing)
     }
-    plain(Cue::Refused(Refusal::NotAwaited), Prior::Nothing)
 }
 
 pub(crate) fn packet(p: Port, s: &[u8]) -> Met
     ensures { result ≡ met_packet p s.now }
 {
-    let r = reading::read(s);
-    match r {
-        Reading::Message { objects, fields } => {
-            message(
-                p,
-                objects,
-                fields,
-                packets::first_object(reading::objects(s)),
-            )
+    match reading::read(s) {
+        Ok(m) => {
+            let request = packets::first_object(reading::objects(s));
+            message(p, m.objects, m.fields, request)
         }
-        Reading::Refused(no) => plain(Cue::Refused(no), Prior::Nothing),
+        Err(no) => plain(Cue::Refused(no), Prior::Nothing),
     }
 }
 
@@ -172,7 +135,8 @@ pub(crate) fn new_offer(limit: u32, o: Offer) -> Met
     ensures { result ≡ met_offer limit o }
 {
     if offers::good(limit, o) {
-        return meets(Stimulus::NewOffer, Prior::Replaced);
+        meets(Stimulus::NewOffer, Prior::Replaced)
+    } else {
+        plain(Cue::Refused(Refusal::BadOffer), Prior::Nothing)
     }
-    plain(Cue::Refused(Refusal::BadOffer), Prior::Nothing)
 }

@@ -4,14 +4,13 @@ ghost use Rattle.std.specs.Prelude.{◌≡◌};
 
 use offers::{Asked, Offer};
 use port::Port;
-use power::{Contract, Power};
+use power::Power;
 
 fn offer(o: Offer) -> Offer
     ensures { result ≡ o }
 {
-    let objects = o.objects;
     Offer {
-        objects: objects,
+        objects: o.objects,
         count: o.count,
     }
 }
@@ -27,24 +26,21 @@ fn asked(a: Asked) -> Asked
     }
 }
 
-fn contract(c: Contract) -> Contract
+fn contract(c: Option<Asked>) -> Option<Asked>
     ensures { result ≡ c }
 {
     match c {
-        Contract::Nothing => Contract::Nothing,
-        Contract::Made(a) => Contract::Made(asked(a)),
+        None => None,
+        Some(a) => Some(asked(a)),
     }
 }
 
 fn power(w: Power) -> Power
     ensures { result ≡ w }
 {
-    let accepted = asked(w.accepted);
-    let agreed = w.contract;
-    let made = contract(agreed);
     Power {
-        accepted: accepted,
-        contract: made,
+        accepted: asked(w.accepted),
+        contract: contract(w.contract),
         held: w.held,
     }
 }
@@ -52,18 +48,13 @@ fn power(w: Power) -> Power
 pub(crate) fn port(p: Port) -> Port
     ensures { result ≡ p }
 {
-    let phase = p.phase;
-    let channel = p.channel;
-    let newest = offer(p.newest);
-    let last = offer(p.last);
-    let promised = power(p.power);
     Port {
-        phase: phase,
-        channel: channel,
-        newest: newest,
+        state: p.state,
+        channel: p.channel,
+        newest: offer(p.newest),
         gone_out: p.gone_out,
-        last: last,
-        power: promised,
+        last: offer(p.last),
+        power: power(p.power),
         count: p.count,
         connected: p.connected,
     }

@@ -3,9 +3,8 @@
 // answers. It rests on the rack's step, by way of `plan`, and on the reading of a night's file.
 #![tactic(auto)]
 
-ghost use Rattle.std.specs.Prelude.{◌≡◌, ◌&&◌, ◌+◌, ◌-◌, ◌*◌, ◌≤◌, min, leb, length};
+ghost use Rattle.std.specs.Prelude.{◌≡◌, ◌&&◌, ◌+◌, ◌-◌, ◌*◌, ◌≤◌, min, leb, length, Err};
 ghost use Rattle.ground.specs.declared.Refusal.TheVariants.{NotInRack};
-ghost use Rattle.ground.specs.declared.Verdict.TheVariants.{Refused};
 ghost use Rattle.source.specs.declared.State.{State};
 ghost use Rattle.port.specs.Memory.{state_of, no_actions};
 ghost use Rattle.rack.specs.Ports.{most_ports, loads};
@@ -13,12 +12,11 @@ ghost use Rattle.tally.specs.Counts.{told, sums_of};
 ghost use Rattle.playing.specs.Nights.{begun, is_accepted, night_in};
 ghost use Rattle.playing.specs.Meeting.{held_by, Small};
 
-use ground::{Refusal, Verdict};
-use outgoing::Packet;
-use port::{Actions, Answer, GoodCrc, Supply};
+use ground::Refusal;
+use port::{Answer, NO_ACTIONS};
 use rack::{PORTS, Rack};
 use slot::Slot;
-use source::{State, Timer};
+use source::State;
 use tally::{Sums, Tally};
 
 mod laying;
@@ -32,30 +30,14 @@ pub struct Played {
     pub at: usize,
 }
 
-const NO_ACTIONS: Actions = Actions {
-    good_crc: GoodCrc {
-        sent: false,
-        bytes: [0u8; 2],
-    },
-    stop: Timer::NoTimer,
-    transmit: Packet {
-        bytes: [0u8; 30],
-        length: 0,
-    },
-    hard_reset: false,
-    supply: Supply::Unchanged,
-    start: Timer::NoTimer,
-};
-
 // An event at a number that is not in the rack is refused.
 fn nobody(t: Tally, number: u8) -> Tally
-    ensures { result ≡ told t number (Refused NotInRack) no_actions State.Detached State.Detached 0 }
+    ensures { result ≡ told t number (Err NotInRack) no_actions State.Detached State.Detached 0 }
 {
-    let none = NO_ACTIONS;
     t.told(
         number,
-        Verdict::Refused(Refusal::NotInRack),
-        none,
+        Err(Refusal::NotInRack),
+        NO_ACTIONS,
         State::Detached,
         State::Detached,
         0,
@@ -66,12 +48,8 @@ fn nobody(t: Tally, number: u8) -> Tally
 fn answered(t: Tally, number: u8, was: State, a: Answer) -> Sums
     ensures { result ≡ sums_of (told t number a.verdict a.actions was (state_of a.port) a.port.power.held) }
 {
-    let q = a.port;
-    let phase = q.phase;
-    let is = phase.state;
-    let v = a.verdict;
-    let actions = a.actions;
-    t.sums(number, v, actions, was, is, q.power.held)
+    let p = a.port;
+    t.sums(number, a.verdict, a.actions, was, p.state, p.power.held)
 }
 
 // How many ports a rack of this count has.
@@ -88,15 +66,6 @@ fn is_in(count: u8, number: u8) -> bool
 {
     let n = ports(count);
     (1 <= number) & (number as usize <= n)
-}
-
-fn is_accepted(v: Verdict) -> bool
-    ensures { result ≡ is_accepted v }
-{
-    match v {
-        Verdict::Fine => true,
-        Verdict::Refused(_) => false,
-    }
 }
 
 // What all ports take of the supply; and no port takes more than a number of its size can say.
@@ -126,15 +95,14 @@ fn moved(total: u64, was: u32, is: u32) -> u64
 fn held(slots: [Slot; PORTS], count: u8, supply: u32, tally: Tally, at: usize) -> Played
     ensures { result ≡ held_by slots count supply tally at }
 {
-    let rack = Rack {
-        slots: slots,
-        count: count,
-        supply: supply,
-    };
     Played {
-        rack: rack,
-        tally: tally,
-        at: at,
+        rack: Rack {
+            slots,
+            count,
+            supply,
+        },
+        tally,
+        at,
     }
 }
 
@@ -159,8 +127,7 @@ pub fn night(r: Rack, t: Tally, s: &[u8]) -> Played
             if is_in(count, number) {
                 let i = (number - 1) as usize;
                 let t = slots[i];
-                let phase = t.port.phase;
-                let state = phase.state;
+                let state = t.port.state;
                 let was = t.load();
                 let a = turns::stepped(t, found, f, total - was as u64, supply);
                 let q = laying::port(a.port);

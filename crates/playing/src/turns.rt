@@ -12,42 +12,21 @@ use slot::Slot;
 pub(crate) fn is_event(found: Found) -> bool
     ensures { result ≡ is_event found }
 {
-    match found {
-        Found::Cut => false,
-        Found::UnknownTag => false,
-        Found::WrongLength => false,
-        Found::SetUp => false,
-        Found::Event(_, _) => true,
-        Found::Packet(_) => true,
-        Found::NewOffer(_) => true,
-    }
+    matches!(found, Found::Event(_, _) | Found::Packet(_) | Found::NewOffer(_))
 }
 
 pub(crate) fn is_set_up(found: Found) -> bool
     ensures { result ≡ is_set_up found }
 {
-    match found {
-        Found::Cut => false,
-        Found::UnknownTag => false,
-        Found::WrongLength => false,
-        Found::SetUp => true,
-        Found::Event(_, _) => false,
-        Found::Packet(_) => false,
-        Found::NewOffer(_) => false,
-    }
+    matches!(found, Found::SetUp)
 }
 
 pub(crate) fn number_in(found: Found) -> u8
     ensures { result ≡ number_in found }
 {
     match found {
-        Found::Cut => 0,
-        Found::UnknownTag => 0,
-        Found::WrongLength => 0,
-        Found::SetUp => 0,
-        Found::Event(number, _) => number,
-        Found::Packet(number) => number,
-        Found::NewOffer(number) => number,
+        Found::Event(number, _) | Found::Packet(number) | Found::NewOffer(number) => number,
+        _ => 0,
     }
 }
 
@@ -57,13 +36,10 @@ fn met(t: Slot, found: Found, f: &[u8]) -> Met
 {
     let p = t.port;
     match found {
-        Found::Cut => plan::event(p, Event::Attach),
-        Found::UnknownTag => plan::event(p, Event::Attach),
-        Found::WrongLength => plan::event(p, Event::Attach),
-        Found::SetUp => plan::event(p, Event::Attach),
         Found::Event(_, e) => plan::event(p, e),
         Found::Packet(_) => plan::packet(p, night::behind(f)),
         Found::NewOffer(_) => plan::new_offer(t.limit, night::offer(f)),
+        _ => plan::event(p, Event::Attach),
     }
 }
 
@@ -71,15 +47,9 @@ fn met(t: Slot, found: Found, f: &[u8]) -> Met
 fn offer_in(p: Port, found: Found, f: &[u8]) -> Offer
     ensures { result ≡ offer_in p found f.now }
 {
-    let newest = p.newest;
     match found {
-        Found::Cut => newest,
-        Found::UnknownTag => newest,
-        Found::WrongLength => newest,
-        Found::SetUp => newest,
-        Found::Event(_, _) => newest,
-        Found::Packet(_) => newest,
         Found::NewOffer(_) => night::offer(f),
+        _ => p.newest,
     }
 }
 
@@ -87,8 +57,6 @@ fn offer_in(p: Port, found: Found, f: &[u8]) -> Offer
 pub(crate) fn stepped(t: Slot, found: Found, f: &[u8], others: u64, supply: u32) -> Answer
     ensures { result ≡ stepped_by t found f.now others supply }
 {
-    let p = t.port;
-    let o = offer_in(p, found, f);
-    let m = met(t, found, f);
-    plan::done(t, o, m, others, supply)
+    let o = offer_in(t.port, found, f);
+    plan::done(t, o, met(t, found, f), others, supply)
 }

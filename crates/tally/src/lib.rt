@@ -94,6 +94,7 @@ fn bit(b: bool) -> u32
 }
 
 // The checksum with a number taken in.
+#[tactic(auto, unfolding(crate::specs::Checksum::mixed))]
 fn mixed(sum: u32, x: u32) -> u32
     ensures { result ≡ mixed sum x }
 {
@@ -116,6 +117,7 @@ fn mixed_packet(sum: u32, m: Packet) -> u32
 }
 
 // The checksum with an answer taken in.
+#[tactic(auto, unfolding(crate::specs::Checksum::checked))]
 fn checked(sum: u32, port: u8, v: Verdict, a: Actions, state: State, held: u32) -> u32
     ensures { result ≡ checked sum port v a state held }
 {
@@ -181,6 +183,7 @@ impl Tally {
     }
 
     // An event's answer, taken in.
+    #[tactic(auto, unfolding(crate::specs::Counts::told))]
     pub fn told(
         self,
         port: u8,
@@ -204,6 +207,7 @@ impl Tally {
     }
 
     // A set-up's answer: it is no event, and counts only where it is refused.
+    #[tactic(auto, unfolding(crate::specs::Counts::set_up_told))]
     pub fn set_up_told(self, v: Verdict) -> Tally
         ensures { result ≡ set_up_told self v }
     {
