@@ -9,6 +9,7 @@ ghost use Rattle.text.specs.Text.{line, line_of, Writes, has_room, typed, glyph_
 use std::fmt;
 
 // A line in the making: the buffer, and the place where it goes on.
+#[derive(Drop)]
 pub struct Line<'a> {
     pub buffer: &'a mut [u8],
     pub end: usize,
