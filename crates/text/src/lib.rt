@@ -3,7 +3,7 @@
 // every byte of the buffer.
 #![tactic(auto)]
 
-ghost use Rattle.std.specs.Prelude.{◌<◌, ◌≡◌, ◌↔◌, [], ◌∷◌, IsOk, IsTrue, take};
+ghost use Rattle.std.specs.Prelude.{◌<◌, ◌≡◌, [], ◌∷◌, IsOk, is_ok, take};
 ghost use Rattle.text.specs.Text.{line, line_of, Writes, has_room, typed, glyph_of, hex_of, number_of, decimal_of, typed_bytes};
 
 use std::fmt;
@@ -34,7 +34,8 @@ impl<'a> Line<'a> {
 
     // The line so far; the whole buffer where the line is said to go on behind it.
     pub fn as_bytes(&self) -> &[u8]
-        ensures { result.now ≡ take self.now.end self.now.buffer.now }
+        ensures bytes { result.now ≡ take self.now.end self.now.buffer.now }
+        ensures place { result.ref_ptr ≡ self.now.buffer.ref_ptr }
     {
         &self.buffer[..self.end.min(self.buffer.len())]
     }
@@ -119,7 +120,7 @@ impl fmt::Write for Line<'_> {
     #[tactic(auto, unfolding(crate::specs::Text::typed))]
     fn write_str(&mut self, s: &str) -> fmt::Result
         ensures ok { IsOk result → Writes self.old s.now self.new }
-        ensures variant { IsOk result ↔ IsTrue (has_room s.now (line_of self.old)) }
+        ensures answer { is_ok result ≡ has_room s.now (line_of self.old) }
         ensures typed { line_of self.new ≡ typed s.now (line_of self.old) }
         ensures same_buffer { self.new.buffer.ghost_name ≡ self.old.buffer.ghost_name }
     {
