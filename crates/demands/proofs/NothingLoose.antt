@@ -1,18 +1,25 @@
 -- Every answer is pinned down: no two differing results meet the contract of a public call, as the checker itself reads that contract.
 -- Where a call returns a part, its place in the caller's memory is settled too; where a call is lent a buffer, so is every byte of it. Assumes nothing.
 use mathlib.Core.Path.{ap}
+use Rattle.std.specs.Prelude.{is_ok}
 use Rattle.ground.proofs.Settles.{Settles, same}
 use Rattle.text.specs.Text.{Line}
-use Rattle.text.proofs.put.Kinds as put-k
-use Rattle.text.proofs.put.Reads as put-c
-use Rattle.text.proofs.put_hex.Kinds as hex-k
-use Rattle.text.proofs.put_hex.Reads as hex-c
-use Rattle.text.proofs.put_number.Kinds as number-text-k
-use Rattle.text.proofs.put_number.Reads as number-text-c
-use Rattle.text.proofs.put_decimal.Kinds as decimal-k
-use Rattle.text.proofs.put_decimal.Reads as decimal-c
-use Rattle.text.proofs.put_bytes.Kinds as bytes-k
-use Rattle.text.proofs.put_bytes.Reads as bytes-c
+use Rattle.text.proofs.Line.new.Kinds as new-k
+use Rattle.text.proofs.Line.new.Reads as new-c
+use Rattle.text.proofs.Line.as_bytes.Kinds as so_far-k
+use Rattle.text.proofs.Line.as_bytes.Reads as so_far-c
+use Rattle.text.proofs.Line.put.Kinds as put-k
+use Rattle.text.proofs.Line.put.Reads as put-c
+use Rattle.text.proofs.Line.put_hex.Kinds as hex-k
+use Rattle.text.proofs.Line.put_hex.Reads as hex-c
+use Rattle.text.proofs.Line.put_number.Kinds as number-text-k
+use Rattle.text.proofs.Line.put_number.Reads as number-text-c
+use Rattle.text.proofs.Line.put_decimal.Kinds as decimal-k
+use Rattle.text.proofs.Line.put_decimal.Reads as decimal-c
+use Rattle.text.proofs.Line.put_bytes.Kinds as bytes-k
+use Rattle.text.proofs.Line.put_bytes.Reads as bytes-c
+use Rattle.text.proofs.LineWrite.write_str.Kinds as write_str-k
+use Rattle.text.proofs.LineWrite.write_str.Reads as write_str-c
 use Rattle.ground.proofs.number.Kinds as number-k
 use Rattle.ground.proofs.number.Reads as number-c
 use Rattle.ground.proofs.refuse_if.Kinds as refuse-k
@@ -100,36 +107,78 @@ header_bytes_lem κs a x y s t = same
 pub good_crc_lem : Settles 0 crc-k.ps crc-k.r crc-c.Post (λ κs x s. x)
 good_crc_lem κs a x y s t = same
 
--- ---- lines of text: the place and every byte of the buffer
-pub put_place : Settles 2 put-k.ps put-k.r put-c.Post (λ κs x s. x)
-put_place κs a x y s t p q = ap (λ (l : Line). l.at) (same p q)
+-- ---- lines of text: the place, every byte of the buffer, and that it is the buffer that was lent
+pub new_place : Settles 1 new-k.ps new-k.r new-c.Post (λ κs x s. x.end)
+new_place κs a x y s t p q = ap (λ (l : Line). l.at) (same p.0 q.0)
 
-pub put_bytes_lem : Settles 2 put-k.ps put-k.r put-c.Post (λ κs x s. s.0.now)
-put_bytes_lem κs a x y s t p q = ap (λ (l : Line). l.text) (same p q)
+pub new_bytes : Settles 1 new-k.ps new-k.r new-c.Post (λ κs x s. x.buffer.now)
+new_bytes κs a x y s t p q = ap (λ (l : Line). l.text) (same p.0 q.0)
 
-pub put_hex_place : Settles 1 hex-k.ps hex-k.r hex-c.Post (λ κs x s. x)
-put_hex_place κs a x y s t p q = ap (λ (l : Line). l.at) (same p q)
+pub new_same_buffer : Settles 1 new-k.ps new-k.r new-c.Post (λ κs x s. x.buffer.ghost_name)
+new_same_buffer κs a x y s t p q = same p.1 q.1
 
-pub put_hex_bytes : Settles 1 hex-k.ps hex-k.r hex-c.Post (λ κs x s. s.0.now)
-put_hex_bytes κs a x y s t p q = ap (λ (l : Line). l.text) (same p q)
+pub as_bytes_bytes : Settles 2 so_far-k.ps so_far-k.r so_far-c.Post (λ κs x s. x.now)
+as_bytes_bytes κs a x y s t p q = same p.0 q.0
 
-pub put_number_place : Settles 1 number-text-k.ps number-text-k.r number-text-c.Post (λ κs x s. x)
-put_number_place κs a x y s t p q = ap (λ (l : Line). l.at) (same p q)
+pub as_bytes_place : Settles 2 so_far-k.ps so_far-k.r so_far-c.Post (λ κs x s. x.ref_ptr)
+as_bytes_place κs a x y s t p q = same p.1 q.1
 
-pub put_number_bytes : Settles 1 number-text-k.ps number-text-k.r number-text-c.Post (λ κs x s. s.0.now)
-put_number_bytes κs a x y s t p q = ap (λ (l : Line). l.text) (same p q)
+pub put_place : Settles 3 put-k.ps put-k.r put-c.Post (λ κs x s. s.0.now.end)
+put_place κs a x y s t p q = ap (λ (l : Line). l.at) (same p.0 q.0)
 
-pub put_decimal_place : Settles 1 decimal-k.ps decimal-k.r decimal-c.Post (λ κs x s. x)
-put_decimal_place κs a x y s t p q = ap (λ (l : Line). l.at) (same p q)
+pub put_bytes_lem : Settles 3 put-k.ps put-k.r put-c.Post (λ κs x s. s.0.now.buffer.now)
+put_bytes_lem κs a x y s t p q = ap (λ (l : Line). l.text) (same p.0 q.0)
 
-pub put_decimal_bytes : Settles 1 decimal-k.ps decimal-k.r decimal-c.Post (λ κs x s. s.0.now)
-put_decimal_bytes κs a x y s t p q = ap (λ (l : Line). l.text) (same p q)
+pub put_same_buffer : Settles 3 put-k.ps put-k.r put-c.Post (λ κs x s. s.0.now.buffer.ghost_name)
+put_same_buffer κs a x y s t p q = same p.1 q.1
 
-pub put_bytes_of_place : Settles 2 bytes-k.ps bytes-k.r bytes-c.Post (λ κs x s. x)
-put_bytes_of_place κs a x y s t p q = ap (λ (l : Line). l.at) (same p q)
+pub put_hex_place : Settles 2 hex-k.ps hex-k.r hex-c.Post (λ κs x s. s.0.now.end)
+put_hex_place κs a x y s t p q = ap (λ (l : Line). l.at) (same p.0 q.0)
 
-pub put_bytes_of_bytes : Settles 2 bytes-k.ps bytes-k.r bytes-c.Post (λ κs x s. s.0.now)
-put_bytes_of_bytes κs a x y s t p q = ap (λ (l : Line). l.text) (same p q)
+pub put_hex_bytes : Settles 2 hex-k.ps hex-k.r hex-c.Post (λ κs x s. s.0.now.buffer.now)
+put_hex_bytes κs a x y s t p q = ap (λ (l : Line). l.text) (same p.0 q.0)
+
+pub put_hex_same_buffer : Settles 2 hex-k.ps hex-k.r hex-c.Post (λ κs x s. s.0.now.buffer.ghost_name)
+put_hex_same_buffer κs a x y s t p q = same p.1 q.1
+
+pub put_number_place : Settles 2 number-text-k.ps number-text-k.r number-text-c.Post (λ κs x s. s.0.now.end)
+put_number_place κs a x y s t p q = ap (λ (l : Line). l.at) (same p.0 q.0)
+
+pub put_number_bytes : Settles 2 number-text-k.ps number-text-k.r number-text-c.Post (λ κs x s. s.0.now.buffer.now)
+put_number_bytes κs a x y s t p q = ap (λ (l : Line). l.text) (same p.0 q.0)
+
+pub put_number_same_buffer : Settles 2 number-text-k.ps number-text-k.r number-text-c.Post (λ κs x s. s.0.now.buffer.ghost_name)
+put_number_same_buffer κs a x y s t p q = same p.1 q.1
+
+pub put_decimal_place : Settles 2 decimal-k.ps decimal-k.r decimal-c.Post (λ κs x s. s.0.now.end)
+put_decimal_place κs a x y s t p q = ap (λ (l : Line). l.at) (same p.0 q.0)
+
+pub put_decimal_bytes : Settles 2 decimal-k.ps decimal-k.r decimal-c.Post (λ κs x s. s.0.now.buffer.now)
+put_decimal_bytes κs a x y s t p q = ap (λ (l : Line). l.text) (same p.0 q.0)
+
+pub put_decimal_same_buffer : Settles 2 decimal-k.ps decimal-k.r decimal-c.Post (λ κs x s. s.0.now.buffer.ghost_name)
+put_decimal_same_buffer κs a x y s t p q = same p.1 q.1
+
+pub put_bytes_of_place : Settles 3 bytes-k.ps bytes-k.r bytes-c.Post (λ κs x s. s.0.now.end)
+put_bytes_of_place κs a x y s t p q = ap (λ (l : Line). l.at) (same p.0 q.0)
+
+pub put_bytes_of_bytes : Settles 3 bytes-k.ps bytes-k.r bytes-c.Post (λ κs x s. s.0.now.buffer.now)
+put_bytes_of_bytes κs a x y s t p q = ap (λ (l : Line). l.text) (same p.0 q.0)
+
+pub put_bytes_of_same_buffer : Settles 3 bytes-k.ps bytes-k.r bytes-c.Post (λ κs x s. s.0.now.buffer.ghost_name)
+put_bytes_of_same_buffer κs a x y s t p q = same p.1 q.1
+
+pub write_str_answer : Settles 3 write_str-k.ps write_str-k.r write_str-c.Post (λ κs x s. is_ok x)
+write_str_answer κs a x y s t p q = same p.1.0 q.1.0
+
+pub write_str_place : Settles 3 write_str-k.ps write_str-k.r write_str-c.Post (λ κs x s. s.0.now.end)
+write_str_place κs a x y s t p q = ap (λ (l : Line). l.at) (same p.1.1.0 q.1.1.0)
+
+pub write_str_bytes : Settles 3 write_str-k.ps write_str-k.r write_str-c.Post (λ κs x s. s.0.now.buffer.now)
+write_str_bytes κs a x y s t p q = ap (λ (l : Line). l.text) (same p.1.1.0 q.1.1.0)
+
+pub write_str_same_buffer : Settles 3 write_str-k.ps write_str-k.r write_str-c.Post (λ κs x s. s.0.now.buffer.ghost_name)
+write_str_same_buffer κs a x y s t p q = same p.1.1.1 q.1.1.1
 
 pub byte : Settles 1 byte-k.ps byte-k.r byte-c.Post (λ κs x s. x)
 byte κs a x y s t = same

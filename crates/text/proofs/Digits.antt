@@ -9,10 +9,6 @@ use lib.ListN.{length, take, drop, set, length-set, length-drop}
 use lib.Seq.{drop-cons, drop-set-lt, get_or-set_same, lt-length-set, take_all}
 use Rattle.text.specs.Text.{glyph_of, digits_before}
 
--- ten places are ten, whatever is stored
-pub ten : (l : List ℕ) (j d : ℕ) → length l ≡ 10 → 10 ≤ length (set l j d)
-ten l j d long = simp length-set (omega arith)
-
 -- a digit takes its place in front of those from the next place on
 stored : (l : List ℕ) (j d : ℕ) → j < length l → drop j (set l j d) ≡ d ∷ drop (suc j) l
 stored l j d h = rw (drop-cons (set l j d) j 0 (lt-length-set l j d h), get_or-set_same l j d 0 h, drop-set-lt (suc j) l j d (le_refl (suc j)))

@@ -1,6 +1,7 @@
 -- docs/PACKETS.md: how bytes and numbers stand in a line of text.
-use Rattle.std.specs.Prelude.{ℕ, zero, suc, ◌+◌, ◌-◌, ◌/◌, ◌%◌, Bool, cond, ◌&&◌, List, [], ◌∷◌, ltb, leb, length}
+use Rattle.std.specs.Prelude.{ℕ, zero, suc, ◌+◌, ◌-◌, ◌/◌, ◌%◌, Bool, cond, ◌&&◌, List, [], ◌∷◌, ltb, leb, length, ◌≡◌, IsTrue}
 use Rattle.ground.specs.Buffers.{laid}
+use Rattle.text.specs.declared.Line as code
 
 -- a line in the making: the buffer, and the place where it goes on
 pub record Line : Type 0 where
@@ -10,12 +11,20 @@ pub record Line : Type 0 where
 abbrev pub line : List ℕ → ℕ → Line
 line text at = record { text = text; at = at }
 
+-- the same, of the program's line
+abbrev pub line_of : code.Line → Line
+line_of l = line l.buffer.now l.end
+
 abbrev pub has_room : List ℕ → Line → Bool
 has_room piece l = leb l.at (length l.text) && leb (length piece) (length l.text - l.at)
 
 -- the line with a piece more, where the piece has room
 unfoldable pub typed : List ℕ → Line → Line
 typed piece l = cond (has_room piece l) (line (laid piece l.at l.text) (l.at + length piece)) l
+
+-- what one call of `write!` does that says it wrote a piece: there was room, and it is typed
+abbrev pub Writes : code.Line → List ℕ → code.Line → Type 0
+Writes l piece m = IsTrue (has_room piece (line_of l)) × (line_of m ≡ typed piece (line_of l)) × (m.buffer.ghost_name ≡ l.buffer.ghost_name)
 
 -- digits in ASCII, large letters
 abbrev pub glyph_of : ℕ → ℕ

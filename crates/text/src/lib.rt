@@ -1,23 +1,18 @@
 // Lines of text for people, put together in a lent buffer: words, bytes in hexadecimal, numbers. A
-// piece that has no room is left out whole. Each call promises the place after it and every byte of the
-// buffer.
+// piece that has no room is left out whole. Each call promises the place where the line goes on and
+// every byte of the buffer.
 #![tactic(auto)]
 
-ghost use Rattle.std.specs.Prelude.{◌<◌, ◌≡◌, [], ◌∷◌};
-ghost use Rattle.text.specs.Text.{line, typed, glyph_of, hex_of, number_of, decimal_of, typed_bytes};
+ghost use Rattle.std.specs.Prelude.{◌<◌, ◌≡◌, [], ◌∷◌, IsOk, is_ok, take};
+ghost use Rattle.text.specs.Text.{line, line_of, Writes, has_room, typed, glyph_of, hex_of, number_of, decimal_of, typed_bytes};
 
-// Puts a piece of text at a place of the line.
-pub fn put(out: &mut [u8], at: usize, piece: &[u8]) -> usize
-    ensures { line out.new result ≡ typed piece.now (line out.old at) }
-{
-    if at <= out.len() {
-        if piece.len() <= out.len() - at {
-            out[at..at + piece.len()].copy_from_slice(piece);
-            return at + piece.len();
-        }
-        return at;
-    }
-    at
+use std::fmt;
+
+// A line in the making: the buffer, and the place where it goes on.
+#[derive(Drop)]
+pub struct Line<'a> {
+    pub buffer: &'a mut [u8],
+    pub end: usize,
 }
 
 // A digit below sixteen, as a large letter where it is no number.
@@ -28,68 +23,111 @@ fn glyph(d: u8) -> u8
     if d < 10 { 48 + d } else { 55 + d }
 }
 
-// Puts a byte as two hexadecimal digits.
-pub fn put_hex(out: &mut [u8], at: usize, b: u8) -> usize
-    ensures { line out.new result ≡ typed (hex_of b) (line out.old at) }
-{
-    let digits = [glyph(b / 16), glyph(b % 16)];
-    put(out, at, &digits)
-}
-
-// Puts a small number in decimal.
-pub fn put_number(out: &mut [u8], at: usize, n: u8) -> usize
-    ensures { line out.new result ≡ typed (number_of n) (line out.old at) }
-{
-    if n < 10 {
-        let digits = [glyph(n % 10)];
-        return put(out, at, &digits);
+impl<'a> Line<'a> {
+    // An empty line at the start of a buffer.
+    pub fn new(buffer: &'a mut [u8]) -> Line<'a>
+        ensures empty { line_of result ≡ line buffer.old 0 }
+        ensures same_buffer { result.buffer.ghost_name ≡ buffer.entry.ghost_name }
+    {
+        Line { buffer, end: 0 }
     }
-    if n < 100 {
-        let digits = [glyph(n / 10 % 10), glyph(n % 10)];
-        return put(out, at, &digits);
-    }
-    let digits = [glyph(n / 100), glyph(n / 10 % 10), glyph(n % 10)];
-    put(out, at, &digits)
-}
 
-// Puts a number in decimal: its digits come from the last to the first.
-pub fn put_decimal(out: &mut [u8], at: usize, n: u32) -> usize
-    ensures { line out.new result ≡ typed (decimal_of n) (line out.old at) }
-{
-    let mut digits = [0u8; 10];
-    let mut left = n;
-    let mut i: usize = 10;
-    while 0 < i {
-        i -= 1;
-        digits[i] = glyph((left % 10) as u8);
-        if left < 10 {
-            return put(out, at, &digits[i..10]);
+    // The line so far; the whole buffer where the line is said to go on behind it.
+    pub fn as_bytes(&self) -> &[u8]
+        ensures bytes { result.now ≡ take self.now.end self.now.buffer.now }
+        ensures place { result.ref_ptr ≡ self.now.buffer.ref_ptr }
+    {
+        &self.buffer[..self.end.min(self.buffer.len())]
+    }
+
+    fn has_room(&self, piece: &[u8]) -> bool
+        ensures { result ≡ has_room piece.now (line_of self.now) }
+    {
+        self.end <= self.buffer.len() && piece.len() <= self.buffer.len() - self.end
+    }
+
+    // Puts a piece of text.
+    #[tactic(auto, unfolding(crate::specs::Text::typed))]
+    pub fn put(&mut self, piece: &[u8])
+        ensures typed { line_of self.new ≡ typed piece.now (line_of self.old) }
+        ensures same_buffer { self.new.buffer.ghost_name ≡ self.old.buffer.ghost_name }
+    {
+        if self.has_room(piece) {
+            self.buffer[self.end..self.end + piece.len()].copy_from_slice(piece);
+            self.end += piece.len();
         }
-        left = left / 10;
     }
-    put(out, at, &digits)
+
+    // Puts a byte as two hexadecimal digits.
+    pub fn put_hex(&mut self, b: u8)
+        ensures typed { line_of self.new ≡ typed (hex_of b) (line_of self.old) }
+        ensures same_buffer { self.new.buffer.ghost_name ≡ self.old.buffer.ghost_name }
+    {
+        self.put(&[glyph(b / 16), glyph(b % 16)]);
+    }
+
+    // Puts a small number in decimal.
+    pub fn put_number(&mut self, n: u8)
+        ensures typed { line_of self.new ≡ typed (number_of n) (line_of self.old) }
+        ensures same_buffer { self.new.buffer.ghost_name ≡ self.old.buffer.ghost_name }
+    {
+        if n < 10 {
+            self.put(&[glyph(n)]);
+        } else if n < 100 {
+            self.put(&[glyph(n / 10), glyph(n % 10)]);
+        } else {
+            self.put(&[glyph(n / 100), glyph(n / 10 % 10), glyph(n % 10)]);
+        }
+    }
+
+    // Puts a number in decimal: its digits come from the last to the first.
+    pub fn put_decimal(&mut self, n: u32)
+        ensures typed { line_of self.new ≡ typed (decimal_of n) (line_of self.old) }
+        ensures same_buffer { self.new.buffer.ghost_name ≡ self.old.buffer.ghost_name }
+    {
+        let mut digits = [0; 10];
+        let mut left = n;
+        for i in (0..10).rev() {
+            digits[i] = glyph((left % 10) as u8);
+            if left < 10 {
+                return self.put(&digits[i..]);
+            }
+            left /= 10;
+        }
+        self.put(&digits);
+    }
+
+    // Puts bytes in hexadecimal with a blank between two, or a dash where there are none.
+    pub fn put_bytes(&mut self, src: &[u8])
+        ensures typed { line_of self.new ≡ typed_bytes src.now (line_of self.old) }
+        ensures same_buffer { self.new.buffer.ghost_name ≡ self.old.buffer.ghost_name }
+    {
+        let [first, rest @ ..] = src else {
+            return self.put(b"-");
+        };
+        self.put_hex(*first);
+        for b in rest {
+            self.put(b" ");
+            self.put_hex(*b);
+        }
+    }
 }
 
-// Puts a blank and a byte.
-fn put_next(out: &mut [u8], at: usize, b: u8) -> usize
-    ensures { line out.new result ≡ typed (hex_of b) (typed (32 ∷ []) (line out.old at)) }
-{
-    let after = put(out, at, b" ");
-    put_hex(out, after, b)
-}
+impl fmt::Write for Line<'_> {
+    ghost write_str_gives = { Writes };
 
-// Puts bytes in hexadecimal with a blank between two, or a dash where there are none.
-pub fn put_bytes(out: &mut [u8], at: usize, src: &[u8]) -> usize
-    ensures { line out.new result ≡ typed_bytes src.now (line out.old at) }
-{
-    if src.len() == 0 {
-        return put(out, at, b"-");
+    // Puts a text; where it has no room it is left out whole, and this says so.
+    #[tactic(auto, unfolding(crate::specs::Text::typed))]
+    fn write_str(&mut self, s: &str) -> fmt::Result
+        ensures ok { IsOk result → Writes self.old s.now self.new }
+        ensures answer { is_ok result ≡ has_room s.now (line_of self.old) }
+        ensures typed { line_of self.new ≡ typed s.now (line_of self.old) }
+        ensures same_buffer { self.new.buffer.ghost_name ≡ self.old.buffer.ghost_name }
+    {
+        if !self.has_room(s.as_bytes()) {
+            return Err(fmt::Error);
+        }
+        self.put(s.as_bytes());
+        Ok(())
     }
-    let mut end = put_hex(out, at, src[0]);
-    let mut i = 1;
-    while i < src.len() {
-        end = put_next(out, end, src[i]);
-        i += 1;
-    }
-    end
 }
