@@ -23,7 +23,7 @@ use Rattle.demands.specs.Limits.{answer_up_to}
 use Rattle.demands.specs.WrongPrograms.{stays_at_eight_ports}
 use Rattle.demands.proofs.AnswerAlike.{Alike, lead_alike}
 use Rattle.demands.proofs.SmallRacks.{same_judgement, same_ports}
-use Rattle.setup.specs.SetUps.{rack_in}
+use Rattle.setup.specs.SetUps.{rack_or_none}
 
 -- ---- a set-up
 -- THE CLAIM: of any set-up of at most 8 ports and 1,600,000 units
@@ -60,7 +60,7 @@ pub nights_as_before : (u : SetUp) (es : List Happens) → u.count ≤ 8 → u.s
 unfolding accepted_set_up
 nights_as_before u es few small =
     let same = ap (λ s. s.rack) (set_up_as_before u few small) in
-    let rest = lead_alike stays_at_eight_ports.step ours.step (rack_in (ours.accepted_set_up u)) es (alike (rack_in (ours.accepted_set_up u)) es (started_with (good_set_up u) u few)) in (
+    let rest = lead_alike stays_at_eight_ports.step ours.step (rack_or_none (ours.accepted_set_up u)) es (alike (rack_or_none (ours.accepted_set_up u)) es (started_with (good_set_up u) u few)) in (
       ap (λ (r : Rack). run_by stays_at_eight_ports.step r es) same ∙ rest.0,
       ap (λ (r : Rack). history_by stays_at_eight_ports.step r es) same ∙ rest.1,
     )

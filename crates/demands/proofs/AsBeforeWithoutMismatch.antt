@@ -11,7 +11,7 @@ use Rattle.demands.specs.Fitting.{NoneSetsIt}
 use Rattle.demands.specs.WrongPrograms.{hears_no_mismatch}
 use Rattle.demands.proofs.AnswerAlike.{Alike, lead_alike}
 pub use Rattle.demands.proofs.AnswersWithoutMismatch.{answers_as_before}
-use Rattle.setup.specs.SetUps.{rack_in}
+use Rattle.setup.specs.SetUps.{rack_or_none}
 
 -- ---- and through any list of events
 alike : (r : Rack) (es : List Happens) → NoneSetsIt es → Alike hears_no_mismatch.step ours.step r es
@@ -21,4 +21,4 @@ alike r (e ∷ es) none = (answers_as_before r e.number e.happening none.0, alik
 -- THE CLAIM: after any set-up
 pub nights_as_before : (u : SetUp) (es : List Happens) → NoneSetsIt es →
     (rack_now hears_no_mismatch u es ≡ rack_now ours u es) × (history hears_no_mismatch u es ≡ history ours u es)
-nights_as_before u es none = lead_alike hears_no_mismatch.step ours.step (rack_in (ours.accepted_set_up u)) es (alike (rack_in (ours.accepted_set_up u)) es none)
+nights_as_before u es none = lead_alike hears_no_mismatch.step ours.step (rack_or_none (ours.accepted_set_up u)) es (alike (rack_or_none (ours.accepted_set_up u)) es none)

@@ -46,7 +46,7 @@ use Rattle.demands.proofs.WrittenReadsBack as Written
 use Rattle.demands.proofs.ReadWritesBack as Read
 use Rattle.reading.specs.Reading.{message_with}
 use Rattle.std.specs.Prelude.{Ok}
-use Rattle.setup.specs.SetUps.{verdict_of, rack_in}
+use Rattle.setup.specs.SetUps.{verdict_of, rack_or_none}
 
 -- ---- messages
 wrote : (f : Fields) (o buf : List ℕ) (place : ℕ) → Wrote f o buf place (ours.write f o buf place) (ours.buffer f o buf place)
@@ -71,7 +71,7 @@ read_and_written =
 -- ---- a port, after an accepted set-up and through any events
 module _ (u : SetUp) (accepted : verdict_of (accepted_set_up u) ≡ Ok tt) (es : List Happens) (i : ℕ) (here : i < u.count) where
   abbrev r : Rack
-  r = run (rack_in (accepted_set_up u)) es
+  r = run (rack_or_none (accepted_set_up u)) es
 
   good : good_set_up u ≡ true
   good = accepted_is_good u accepted

@@ -22,7 +22,7 @@ use Rattle.rackclaims.proofs.AcceptOnTheWire.{accept_is_sent}
 use Rattle.demands.specs.Ours.{ours}
 use Rattle.demands.specs.Demand3.{SupplyHolds, ShareIsGranted, HistoryIsTrue, Demand3}
 use Rattle.std.specs.Prelude.{Ok}
-use Rattle.setup.specs.SetUps.{verdict_of, rack_in}
+use Rattle.setup.specs.SetUps.{verdict_of, rack_or_none}
 
 module _ (u : SetUp) (accepted : verdict_of (accepted_set_up u) ≡ Ok tt) (es : List Happens) where
   supply : SupplyHolds ours u es
@@ -35,7 +35,7 @@ module _ (u : SetUp) (accepted : verdict_of (accepted_set_up u) ≡ Ok tt) (es :
 
   module _ (i : ℕ) (here : i < u.count) where
     abbrev r : Rack
-    r = run (rack_in (accepted_set_up u)) es
+    r = run (rack_or_none (accepted_set_up u)) es
 
     k : Reached u r
     k = Supply.reached u accepted es

@@ -22,7 +22,7 @@ use Rattle.setup.specs.SetUps.{good_setting, good_set_up, accepted_set_up}
 use Rattle.demands.specs.Ours.{ours}
 use Rattle.ground.specs.Refusals.{Verdict}
 use Rattle.std.specs.Prelude.{Ok, Err}
-use Rattle.setup.specs.SetUps.{verdict_of, rack_in}
+use Rattle.setup.specs.SetUps.{verdict_of, rack_or_none}
 
 -- 5 V, 9 V, 10 V, 12 V, 15 V, 18 V and 20 V, each with 5 A
 abbrev seven_objects : Offer
@@ -37,7 +37,7 @@ largest = alike 32 200000 6400000
 
 -- what is answered to an attach at the port of a number
 abbrev attach : ℕ → Verdict
-attach number = (ours.step (rack_in (ours.accepted_set_up largest)) number (event Event.Attach)).verdict
+attach number = (ours.step (rack_or_none (ours.accepted_set_up largest)) number (event Event.Attach)).verdict
 
 pub record Cases : Type 0 where
   pub set_up_lem : verdict_of (ours.accepted_set_up largest) ≡ Ok tt

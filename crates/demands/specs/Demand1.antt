@@ -15,7 +15,7 @@ use Rattle.setup.specs.SetUps.{good_set_up, rack_of, no_rack}
 use Rattle.rackclaims.specs.Verdicts.{verdict_in}
 use Rattle.demands.specs.Programs.{Program}
 use Rattle.std.specs.Prelude.{Ok, Err}
-use Rattle.setup.specs.SetUps.{verdict_of, rack_in}
+use Rattle.setup.specs.SetUps.{verdict_of, rack_or_none}
 
 pub record Demand1 (P : Program) : Type 0 where
   -- every event gets an answer, whatever came before, so in any rack: the table's number where the table gives one ("9, then 1 to 4 or 7, then 8"), else it is fine
@@ -30,5 +30,5 @@ pub record Demand1 (P : Program) : Type 0 where
   -- nor is any lent byte; events and reading are lent nothing that they could change
   pub no_lent_byte_is_different : (f : Fields) (o buf : List ℕ) (place : ℕ) (no' : Refusal) → P.write f o buf place ≡ Err no' → P.buffer f o buf place ≡ buf
   -- a set-up: good, it is set up; bad, it is 10, and nothing is set up
-  pub good_is_set_up : (u : SetUp) → good_set_up u ≡ true → (verdict_of (P.accepted_set_up u) ≡ Ok tt) × (rack_in (P.accepted_set_up u) ≡ rack_of u)
-  pub bad_is_ten : (u : SetUp) → good_set_up u ≡ false → (verdict_of (P.accepted_set_up u) ≡ Err BadSetUp) × (rack_in (P.accepted_set_up u) ≡ no_rack)
+  pub good_is_set_up : (u : SetUp) → good_set_up u ≡ true → (verdict_of (P.accepted_set_up u) ≡ Ok tt) × (rack_or_none (P.accepted_set_up u) ≡ rack_of u)
+  pub bad_is_ten : (u : SetUp) → good_set_up u ≡ false → (verdict_of (P.accepted_set_up u) ≡ Err BadSetUp) × (rack_or_none (P.accepted_set_up u) ≡ no_rack)

@@ -9,7 +9,7 @@ use Rattle.rackclaims.specs.History.{Entry, history_by}
 use Rattle.std.specs.Prelude.{Ok, Result}
 use Rattle.reading.specs.declared.Message.{Message}
 use Rattle.ground.specs.declared.Refusal.{Refusal}
-use Rattle.setup.specs.SetUps.{verdict_of, rack_in}
+use Rattle.setup.specs.SetUps.{verdict_of, rack_or_none}
 
 pub record Program : Type 0 where
   -- reading a packet: the fields or the refusal, and the object bytes that are handed back
@@ -24,10 +24,10 @@ pub record Program : Type 0 where
 
 -- after a set-up and some events: the rack; and the history, what came and what was answered
 abbrev pub rack_now : Program → SetUp → List Happens → Rack
-rack_now P u es = run_by P.step (rack_in (P.accepted_set_up u)) es
+rack_now P u es = run_by P.step (rack_or_none (P.accepted_set_up u)) es
 
 abbrev pub history : Program → SetUp → List Happens → List Entry
-history P u es = history_by P.step (rack_in (P.accepted_set_up u)) es
+history P u es = history_by P.step (rack_or_none (P.accepted_set_up u)) es
 
 -- "After an accepted set-up and through any events at any ports", of each port
 abbrev pub AtAnyPort : Program → (SetUp → List Happens → ℕ → Type 0) → Type 0

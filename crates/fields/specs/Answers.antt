@@ -12,7 +12,7 @@ use Rattle.night.specs.SetUps.{set_up_in}
 use Rattle.fields.specs.declared.Field.{Field}
 use Rattle.ground.specs.Refusals.{Verdict}
 use Rattle.std.specs.Prelude.{Ok, Err}
-use Rattle.setup.specs.SetUps.{verdict_of, rack_in}
+use Rattle.setup.specs.SetUps.{verdict_of, rack_or_none}
 use Rattle.std.specs.Prelude.{is_some, Option, Result}
 use Rattle.night.specs.SetUps.{set_up_or_none}
 use Rattle.setup.specs.declared.SetUp.{SetUp}
@@ -31,7 +31,7 @@ rack_after (Ok _) new old = new
 rack_after (Err r) new old = old
 
 abbrev pub started_field : Rack → Result Rack Refusal → ℕ → Field
-started_field r s size = record { found = Found.SetUp; read = true; verdict = verdict_of s; actions = no_actions; rack = rack_after (verdict_of s) (rack_in s) r; size = size }
+started_field r s size = record { found = Found.SetUp; read = true; verdict = verdict_of s; actions = no_actions; rack = rack_after (verdict_of s) (rack_or_none s) r; size = size }
 
 abbrev pub laid_field : Rack → Option SetUp → ℕ → Field
 laid_field r laid size = cond (is_some laid) (started_field r (accepted_set_up (set_up_or_none laid)) size) (unread Found.SetUp r)

@@ -47,6 +47,7 @@ fn answered(t: Slot, here: bool, a: Answer, size: usize) -> Alone
 }
 
 // What the first field of some bytes comes to at the port of a number.
+#[tactic(auto, unfolding(crate::specs::PortAlone::alone_of, port::specs::Calls::step))]
 pub fn at_port(t: Slot, number: u8, s: &[u8]) -> Alone
     ensures { result ≡ alone_of t number s.now }
 {

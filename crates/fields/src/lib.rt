@@ -107,6 +107,7 @@ fn set_up(r: Rack, s: &[u8], size: usize) -> Field
 }
 
 // What the first field of some bytes comes to over a rack.
+#[tactic(auto, unfolding(crate::specs::Answers::field_of))]
 pub fn first(r: Rack, s: &[u8]) -> Field
     ensures { result ≡ field_of r s.now }
 {
@@ -134,6 +135,7 @@ fn ending_by(found: Found, laid: bool) -> Ending
 }
 
 // Why the reading stopped before some bytes.
+#[tactic(auto, unfolding(crate::specs::Endings::ending_of))]
 fn ending_of(s: &[u8]) -> Ending
     ensures { result ≡ ending_of s.now }
 {

@@ -2,7 +2,6 @@
 use Prim.Native.Nat.{ℕ}
 use native.Mathlib.Omega.{arith}
 use mathlib.Core.Path.{◌≡◌, refl}
-use mathlib.Core.Bool.{true}
 use mathlib.Core.List.{List, [], ◌∷◌, ◌++◌}
 use lib.ListN.{length, drop}
 use Rattle.message.specs.Bytes.{word_of}
@@ -12,6 +11,7 @@ use Rattle.night.specs.Fields.{tag_of, length_of, size_of, is_whole, value_of, n
 use Rattle.night.specs.Events.{event_of, kind_of, next_of, behind_of}
 use Rattle.night.specs.SetUps.{head_is, is_setting, setting_of, is_port, is_supply, placed, group_in, set_up_in}
 use Rattle.night.specs.Layout.{PortGroup, four_bytes, object_bytes, field_bytes, port_value, rack_value, rack_bytes, set_up_for, Fit}
+use Rattle.std.specs.Prelude.{Some}
 
 -- "an offer of 5 V 3 A": `2C 91 01 00`
 abbrev port : PortGroup
@@ -37,7 +37,7 @@ pub first_a_set_up : (next_of night ≡ Found.SetUp) × (size_of night ≡ 34)
 unfolding next_of is_whole size_of length_of tag_of word_of kind_of
 first_a_set_up = (refl, refl)
 
-pub the_set_up : set_up_in night ≡ record { whole = true; set_up = set_up_for (port ∷ []) 30000 }
+pub the_set_up : set_up_in night ≡ Some (set_up_for (port ∷ []) 30000)
 unfolding set_up_in group_in is_supply is_port is_setting setting_of head_is placed offer_in number_at value_of is_whole size_of length_of tag_of word_of
 the_set_up = refl
 

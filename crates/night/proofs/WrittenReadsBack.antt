@@ -19,6 +19,7 @@ use Rattle.night.specs.Layout.{PortGroup, four_bytes, field_bytes, port_value, r
 use Rattle.night.proofs.Groups.{by_supply, by_port}
 use Rattle.night.proofs.LaidOutBytes.{rack_bytes_lem}
 use Rattle.night.proofs.LaidOut.{field_length, tag_back, size_back, whole_back, value_back, rest_back, setting_back, is_port_lem, no_supply, is_supply_lem, supply_back}
+use Rattle.std.specs.Prelude.{Some}
 
 -- ---- one more behind the first n
 module _ {A : Type 0} (d x : A) where
@@ -77,7 +78,7 @@ module _ (ports : List PortGroup) (supply : ℕ) (fit : Fit ports supply) where
     all_of_it = size_back 16 (rack_value ports supply) rest
 
     -- THE CLAIM: and exactly that set-up is read
-    pub reads_back : set_up_in (rack_bytes ports supply ++ rest) ≡ record { whole = true; set_up = set_up_for ports supply }
+    pub reads_back : set_up_in (rack_bytes ports supply ++ rest) ≡ Some (set_up_for ports supply)
     unfolding set_up_in rack_bytes
     reads_back =
         rw (value_back 16 (rack_value ports supply) rest)

@@ -1,6 +1,6 @@
 -- docs/NIGHT.md, "The set-up": a rack group is its port groups, in the order of the ports' numbers, and then the supply; a port group is share, limit and
 -- offer objects.
-use Rattle.std.specs.Prelude.{ℕ, zero, suc, ◌+◌, ◌-◌, ◌%◌, min, Bool, true, false, cond, ◌&&◌, List, leb, ltb, eqb, length, drop, set, replicate}
+use Rattle.std.specs.Prelude.{ℕ, zero, suc, ◌+◌, ◌-◌, ◌%◌, min, Bool, cond, ◌&&◌, List, leb, ltb, eqb, length, drop, set, replicate}
 use Rattle.port.specs.Memory.{no_offer}
 use Rattle.rack.specs.Ports.{most_ports}
 use Rattle.setup.specs.declared.Setting.{Setting}

@@ -23,7 +23,7 @@ use Rattle.nightclaims.specs.Pieces.{played}
 use Rattle.nightclaims.specs.Answered.{answer_told, answers_told}
 use Rattle.ground.specs.Refusals.{Verdict}
 use Rattle.std.specs.Prelude.{Ok, Err}
-use Rattle.setup.specs.SetUps.{verdict_of, rack_in}
+use Rattle.setup.specs.SetUps.{verdict_of, rack_or_none}
 use Rattle.std.specs.Prelude.{is_some}
 use Rattle.night.specs.SetUps.{set_up_or_none}
 
@@ -74,7 +74,7 @@ module _ (p : Played) (l : List ℕ) where
   done_by_lem Found.Cut e = true_not_false (sym e)
   done_by_lem Found.UnknownTag e = true_not_false (sym e)
   done_by_lem Found.WrongLength e = true_not_false (sym e)
-  done_by_lem Found.SetUp e = rw (e, rack_same (verdict_of (accepted_set_up (set_up_or_none (set_up_in l)))) (rack_in (accepted_set_up (set_up_or_none (set_up_in l)))) p.rack) refl
+  done_by_lem Found.SetUp e = rw (e, rack_same (verdict_of (accepted_set_up (set_up_or_none (set_up_in l)))) (rack_or_none (accepted_set_up (set_up_or_none (set_up_in l)))) p.rack) refl
   done_by_lem (Found.Event number x) e = refl
   done_by_lem (Found.Packet number) e = refl
   done_by_lem (Found.NewOffer number) e = refl

@@ -17,7 +17,7 @@ use Rattle.playing.specs.Nights.{set_up_done, field_done, is_readable}
 use Rattle.nightclaims.specs.Pieces.{played}
 use Rattle.nightclaims.proofs.PiecesChangeNothing.{first_field}
 use Rattle.std.specs.Prelude.{Ok}
-use Rattle.setup.specs.SetUps.{verdict_of, rack_in}
+use Rattle.setup.specs.SetUps.{verdict_of, rack_or_none}
 use Rattle.std.specs.Prelude.{is_some, Option}
 use Rattle.setup.specs.declared.SetUp.{SetUp}
 
@@ -27,7 +27,7 @@ module _ (ports : List PortGroup) (supply : ℕ) where
   set_up_played p = set_up_done p (accepted_set_up (set_up_for ports supply)) (length (rack_bytes ports supply))
 
   -- THE CLAIM: where it is accepted, there is its rack, whatever rack there was
-  pub its_rack : (p : Played) → verdict_of (accepted_set_up (set_up_for ports supply)) ≡ Ok tt → (set_up_played p).rack ≡ rack_in (accepted_set_up (set_up_for ports supply))
+  pub its_rack : (p : Played) → verdict_of (accepted_set_up (set_up_for ports supply)) ≡ Ok tt → (set_up_played p).rack ≡ rack_or_none (accepted_set_up (set_up_for ports supply))
   unfolding set_up_done
   its_rack p accepted = rw accepted
 

@@ -31,26 +31,26 @@ use Rattle.nightclaims.specs.InSupply.{held_in, InSupply}
 use Rattle.nightclaims.proofs.EventByEvent.{event_by_event}
 use Rattle.nightclaims.proofs.SetUpComesFirst.{set_up_played, set_up_comes_first, its_rack}
 use Rattle.std.specs.Prelude.{Ok}
-use Rattle.setup.specs.SetUps.{verdict_of, rack_in}
+use Rattle.setup.specs.SetUps.{verdict_of, rack_or_none}
 use Rattle.night.specs.SetUps.{set_up_or_none}
 
 -- ---- an accepted set-up u, and then events: whatever bytes, as long as no set-up is read
 module _ (u : SetUp)
     (accepted : verdict_of (accepted_set_up u) ≡ Ok tt)
     (p : Played)
-    (is_set_up_lem : p.rack ≡ rack_in (accepted_set_up u))
+    (is_set_up_lem : p.rack ≡ rack_or_none (accepted_set_up u))
     (l : List ℕ)
     (events : no_set_up_in (length l) l ≡ true) where
   abbrev es : List Happens
   es = happened_in (length l) l
 
-  rack_is : (played p l).rack ≡ run (rack_in (accepted_set_up u)) es
+  rack_is : (played p l).rack ≡ run (rack_or_none (accepted_set_up u)) es
   rack_is = event_by_event (length l) p l events ∙ ap (λ (r : Rack). run r es) is_set_up_lem
 
   abbrev held_after : ℕ → ℕ
   held_after = held_in (played p l).rack
 
-  by_history : (i : ℕ) → i < u.count → held_after i ≡ held_by (suc i) (history (rack_in (accepted_set_up u)) es)
+  by_history : (i : ℕ) → i < u.count → held_after i ≡ held_by (suc i) (history (rack_or_none (accepted_set_up u)) es)
   by_history i h = ap (λ (r : Rack). held_in r i) rack_is ∙ Supply.program_keeps_the_history u accepted es i h
 
   -- THE CLAIM: no port holds more than its limit
@@ -81,7 +81,7 @@ module _ (ports : List PortGroup) (supply : ℕ)
   abbrev then' : Played
   then' = set_up_played ports supply p
 
-  there : then'.rack ≡ rack_in (accepted_set_up laid)
+  there : then'.rack ≡ rack_or_none (accepted_set_up laid)
   there = its_rack ports supply p accepted
 
   -- the rack that the file comes to

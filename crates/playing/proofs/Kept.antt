@@ -37,6 +37,7 @@ use Rattle.setup.specs.SetUps.{verdict_of}
 use Rattle.std.specs.Prelude.{is_some, Result}
 use Rattle.night.specs.SetUps.{set_up_or_none}
 use Rattle.ground.specs.declared.Refusal.{Refusal}
+use Rattle.setup.specs.SetUps.{rack_or_none}
 
 -- ---- one field of the definition
 read_on : (n : ℕ) (p : Played) (l : List ℕ) → 0 < n → is_readable (next_of l) l ≡ true → night_in n p l ≡ night_in (n - 1) (field_done (next_of l) p l) (drop (size_of l) l)
@@ -237,7 +238,7 @@ module _ {r : Rack} {t : Tally} {s : List ℕ} {slots : List Slot} {count supply
     laid : is_readable found f ≡ true
     laid = rw (is_set_up_lem found e) whole
 
-    set_up_there : (v : Verdict) → verdict_of started ≡ v → field_done found (held_by slots count supply tally place) f ≡ record { rack = rack_after v (rack_in started) (rack_in slots count supply); tally = tally'; at = place + size_of f }
+    set_up_there : (v : Verdict) → verdict_of started ≡ v → field_done found (held_by slots count supply tally place) f ≡ record { rack = rack_after v (rack_or_none started) (rack_in slots count supply); tally = tally'; at = place + size_of f }
     unfolding set_up_done
     set_up_there v q = rw (is_set_up_lem found e, ← isstarted, ← istally, ← q) refl
 
@@ -248,10 +249,10 @@ module _ {r : Rack} {t : Tally} {s : List ℕ} {slots : List Slot} {count supply
         by_verdict_lem (Ok _) q n = true_not_false n
         by_verdict_lem (Err x) q n = goes_on laid (set_up_reaches e) slots count supply sum tally' (set_up_there (Err x) q) inv.long inv.small inv.sum_is
 
-    pub accepted_set_up_lem : is_accepted (verdict_of started) ≡ true → (sum' : ℕ) → length (rack_in started).slots ≡ most_ports → (sum' ≡ loads (rack_in started)) × Small (rack_in started) →
-        Kept r t s (rack_in started).slots (rack_in started).count (rack_in started).supply sum' tally' (place + size_of f) (left - 1)
+    pub accepted_set_up_lem : is_accepted (verdict_of started) ≡ true → (sum' : ℕ) → length (rack_or_none started).slots ≡ most_ports → (sum' ≡ loads (rack_or_none started)) × Small (rack_or_none started) →
+        Kept r t s (rack_or_none started).slots (rack_or_none started).count (rack_or_none started).supply sum' tally' (place + size_of f) (left - 1)
     accepted_set_up_lem n sum' l m = by_verdict_lem (verdict_of started) refl n
       where
-        by_verdict_lem : (v : Verdict) → verdict_of started ≡ v → is_accepted v ≡ true → Kept r t s (rack_in started).slots (rack_in started).count (rack_in started).supply sum' tally' (place + size_of f) (left - 1)
-        by_verdict_lem (Ok _) q n = goes_on laid (set_up_reaches e) (rack_in started).slots (rack_in started).count (rack_in started).supply sum' tally' (set_up_there (Ok tt) q) l m.1 m.0
+        by_verdict_lem : (v : Verdict) → verdict_of started ≡ v → is_accepted v ≡ true → Kept r t s (rack_or_none started).slots (rack_or_none started).count (rack_or_none started).supply sum' tally' (place + size_of f) (left - 1)
+        by_verdict_lem (Ok _) q n = goes_on laid (set_up_reaches e) (rack_or_none started).slots (rack_or_none started).count (rack_or_none started).supply sum' tally' (set_up_there (Ok tt) q) l m.1 m.0
         by_verdict_lem (Err x) q n = true_not_false (sym n)

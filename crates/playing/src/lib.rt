@@ -152,15 +152,11 @@ pub fn night(r: Rack, t: Tally, s: &[u8]) -> Played
             continue;
         }
         if turns::is_set_up(found) {
-            let laid = night::set_up(f);
-            if laid.whole {
+            if let Some(u) = night::set_up(f) {
                 at += night::size(f);
-                let set_up = laid.set_up;
-                let started = setup::set_up(set_up);
-                let v = started.verdict;
-                tally = tally.set_up_told(v);
-                if is_accepted(v) {
-                    let rack = started.rack;
+                let started = setup::set_up(u);
+                tally = tally.set_up_told(verdict(&started));
+                if let Ok(rack) = started {
                     slots = rack.slots;
                     count = rack.count;
                     supply = rack.supply;

@@ -16,7 +16,7 @@ use Rattle.setup.specs.declared.SetUp.{SetUp}
 use Rattle.setup.specs.SetUps.{least, largest_limit, no_setting, setting, good_setting, everywhere, shares, good_count, good_supply, good_set_up, slot_of, rack_of, judged, accepted_set_up}
 use Rattle.portclaims.proofs.Truth.{true_not_false, first, second}
 use Rattle.std.specs.Prelude.{Ok}
-use Rattle.setup.specs.SetUps.{verdict_of, rack_in}
+use Rattle.setup.specs.SetUps.{verdict_of, rack_or_none}
 
 -- something that holds everywhere holds at each place
 each : (f : ℕ → Bool) (n i : ℕ) → everywhere f n ≡ true → i < n → f i ≡ true
@@ -43,7 +43,7 @@ module _ (u : SetUp) where
   unfolding accepted_set_up
   accepted_is_good e = by_test (good_set_up u) refl e
 
-  pub good_is_set_up : good_set_up u ≡ true → rack_in (accepted_set_up u) ≡ rack_of u
+  pub good_is_set_up : good_set_up u ≡ true → rack_or_none (accepted_set_up u) ≡ rack_of u
   unfolding accepted_set_up
   good_is_set_up e = rw e refl
 

@@ -18,24 +18,24 @@ use Rattle.rackclaims.proofs.GoodSetUps.{accepted_is_good, good_is_set_up}
 use Rattle.rackclaims.proofs.Reached.{Reached, always_reached, ports_are}
 use Rattle.rackclaims.proofs.HeldByHistory.{held_by_history}
 use Rattle.std.specs.Prelude.{Ok}
-use Rattle.setup.specs.SetUps.{verdict_of, rack_in}
+use Rattle.setup.specs.SetUps.{verdict_of, rack_or_none}
 
 module _ (u : SetUp) (accepted : verdict_of (accepted_set_up u) ≡ Ok tt) (es : List Happens) where
   abbrev entries : List Entry
-  entries = history (rack_in (accepted_set_up u)) es
+  entries = history (rack_or_none (accepted_set_up u)) es
 
   good : good_set_up u ≡ true
   good = accepted_is_good u accepted
 
-  the_rack : rack_in (accepted_set_up u) ≡ rack_of u
+  the_rack : rack_or_none (accepted_set_up u) ≡ rack_of u
   the_rack = good_is_set_up u good
 
   -- the rack that the events lead to
-  pub reached : Reached u (run (rack_in (accepted_set_up u)) es)
+  pub reached : Reached u (run (rack_or_none (accepted_set_up u)) es)
   reached = subst (λ r. Reached u (run r es)) (sym the_rack) (always_reached u good es)
 
   -- THE CLAIM: what the program keeps is what the history says
-  pub program_keeps_the_history : (i : ℕ) → i < u.count → (at (run (rack_in (accepted_set_up u)) es) i).port.power.held ≡ held_by (suc i) entries
+  pub program_keeps_the_history : (i : ℕ) → i < u.count → (at (run (rack_or_none (accepted_set_up u)) es) i).port.power.held ≡ held_by (suc i) entries
   program_keeps_the_history i h = subst (λ r. (at (run r es) i).port.power.held ≡ held_by (suc i) (history r es)) (sym the_rack) (held_by_history u good i h es)
 
   -- THE CLAIM: no port holds more than its limit
@@ -43,23 +43,23 @@ module _ (u : SetUp) (accepted : verdict_of (accepted_set_up u) ≡ Ok tt) (es :
   limit_holds i h = le_trans (le_of_eq (sym (program_keeps_the_history i h))) (le_trans (reached.within i h) (le_of_eq (reached.limit i h)))
 
   -- what a port takes, by the history, and what the others take
-  pub load_is : (i : ℕ) → i < u.count → max (setting u i).share (held_by (suc i) entries) ≡ load_of (at (run (rack_in (accepted_set_up u)) es) i)
+  pub load_is : (i : ℕ) → i < u.count → max (setting u i).share (held_by (suc i) entries) ≡ load_of (at (run (rack_or_none (accepted_set_up u)) es) i)
   load_is i h = rw (← program_keeps_the_history i h, ← reached.share i h)
 
-  pub others_are : (i : ℕ) → total (λ k. cond (eqb k i) 0 (max (setting u k).share (held_by (suc k) entries))) u.count ≡ others (run (rack_in (accepted_set_up u)) es) i
+  pub others_are : (i : ℕ) → total (λ k. cond (eqb k i) 0 (max (setting u k).share (held_by (suc k) entries))) u.count ≡ others (run (rack_or_none (accepted_set_up u)) es) i
   unfolding others
   others_are i =
-      total_same _ (λ k. cond (eqb k i) 0 (load_of (at (run (rack_in (accepted_set_up u)) es) k))) u.count (λ k h. ap (λ n. cond (eqb k i) 0 n) (load_is k h))
-      ∙ ap (total (λ k. cond (eqb k i) 0 (load_of (at (run (rack_in (accepted_set_up u)) es) k)))) (sym (ports_are u good (run (rack_in (accepted_set_up u)) es) reached))
+      total_same _ (λ k. cond (eqb k i) 0 (load_of (at (run (rack_or_none (accepted_set_up u)) es) k))) u.count (λ k h. ap (λ n. cond (eqb k i) 0 n) (load_is k h))
+      ∙ ap (total (λ k. cond (eqb k i) 0 (load_of (at (run (rack_or_none (accepted_set_up u)) es) k)))) (sym (ports_are u good (run (rack_or_none (accepted_set_up u)) es) reached))
 
-  all_ports : total (λ i. load_of (at (run (rack_in (accepted_set_up u)) es) i)) u.count ≡ loads (run (rack_in (accepted_set_up u)) es)
+  all_ports : total (λ i. load_of (at (run (rack_or_none (accepted_set_up u)) es) i)) u.count ≡ loads (run (rack_or_none (accepted_set_up u)) es)
   unfolding loads
-  all_ports = ap (total (λ i. load_of (at (run (rack_in (accepted_set_up u)) es) i))) (sym (ports_are u good (run (rack_in (accepted_set_up u)) es) reached))
+  all_ports = ap (total (λ i. load_of (at (run (rack_or_none (accepted_set_up u)) es) i))) (sym (ports_are u good (run (rack_or_none (accepted_set_up u)) es) reached))
 
   -- THE CLAIM: what a port has not taken of its share stays free for it
   pub shares_stay_free : total (λ i. max (setting u i).share (held_by (suc i) entries)) u.count ≤ u.supply
   shares_stay_free =
-      le_trans (le_of_eq (total_same (λ i. max (setting u i).share (held_by (suc i) entries)) (λ i. load_of (at (run (rack_in (accepted_set_up u)) es) i)) u.count load_is ∙ all_ports))
+      le_trans (le_of_eq (total_same (λ i. max (setting u i).share (held_by (suc i) entries)) (λ i. load_of (at (run (rack_or_none (accepted_set_up u)) es) i)) u.count load_is ∙ all_ports))
       (le_trans reached.fits (le_of_eq reached.supply))
 
   -- THE CLAIM: the power held by all ports is at most the supply

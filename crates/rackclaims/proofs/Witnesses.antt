@@ -48,7 +48,7 @@ use Rattle.rackclaims.proofs.Settling.{asks}
 use Rattle.rackclaims.proofs.Neighbours.{others_stay}
 use Rattle.reading.specs.Reading.{message_with}
 use Rattle.std.specs.Prelude.{Ok, Err}
-use Rattle.setup.specs.SetUps.{verdict_of, rack_in}
+use Rattle.setup.specs.SetUps.{verdict_of, rack_or_none}
 
 -- the fields of a receiver's first Request
 abbrev asks_once : Fields
@@ -82,7 +82,7 @@ abbrev is_gone : List Happens
 is_gone = has_less ++ (to1 (event Event.Detach) ∷ [])
 
 abbrev held_at : ℕ → List Happens → ℕ
-held_at number es = held_by number (history (rack_in (accepted_set_up Desk.night_desk)) es)
+held_at number es = held_by number (history (rack_or_none (accepted_set_up Desk.night_desk)) es)
 
 -- port 1 hears a Hard Reset, and Default is reached; or its PS_RDY goes out
 abbrev resetting : Rack

@@ -8,7 +8,7 @@ use Rattle.rack.specs.Steps.{event, packet}
 use Rattle.rack.specs.Runs.{Happens, run}
 use Rattle.setup.specs.declared.SetUp.{SetUp}
 use Rattle.setup.specs.SetUps.{accepted_set_up}
-use Rattle.setup.specs.SetUps.{rack_in}
+use Rattle.setup.specs.SetUps.{rack_or_none}
 
 -- 5 V, 9 V and 20 V, each with 3 A
 abbrev pub three_objects : Offer
@@ -55,4 +55,4 @@ asked (a ∷ rest) = attached a.number ++ (asking a.number a.bytes ∷ asked res
 
 -- the rack in which these have asked in turn, and then the receiver at a port has acknowledged its offer
 unfoldable pub rack_after : List Asking → ℕ → Rack
-rack_after earlier number = run (rack_in (accepted_set_up night_desk)) (asked earlier ++ attached number)
+rack_after earlier number = run (rack_or_none (accepted_set_up night_desk)) (asked earlier ++ attached number)

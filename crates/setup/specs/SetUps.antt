@@ -77,6 +77,6 @@ abbrev pub verdict_of : Result Rack Refusal → Verdict
 verdict_of (Ok r) = Ok tt
 verdict_of (Err no') = Err no'
 
-abbrev pub rack_in : Result Rack Refusal → Rack
-rack_in (Ok r) = r
-rack_in (Err no') = no_rack
+abbrev pub rack_or_none : Result Rack Refusal → Rack
+rack_or_none (Ok r) = r
+rack_or_none (Err no') = no_rack

@@ -1,5 +1,5 @@
 -- docs/REPLAY.md, "The checksum": the numbers that an answer takes in, in their order.
-use Rattle.std.specs.Prelude.{ℕ, ◌+◌, ◌*◌, ◌%◌, Bool, true, false, cond, List, [], ◌∷◌, take}
+use Rattle.std.specs.Prelude.{ℕ, ◌+◌, ◌*◌, ◌%◌, Bool, true, false, List, [], ◌∷◌, take}
 use Rattle.ground.specs.Refusals.{number_of}
 use Rattle.message.specs.Bytes.{word_of}
 use Rattle.outgoing.specs.declared.Packet.{Packet}

@@ -14,6 +14,8 @@ use Rattle.playing.proofs.Kept.{none_left, stops_unlaid, stops_unread, event_rea
 use Rattle.playing.proofs.night.Goals as goal
 use Rattle.setup.specs.declared.SetUp.{SetUp}
 use Rattle.std.specs.Prelude.{Option}
+use Rattle.std.specs.Prelude.{is_some}
+use Rattle.night.specs.SetUps.{set_up_or_none}
 
 pub loop-left-init : goal.loop-left-init
 loop-left-init c = record { within = search rules; long = search (rules, long) depth 7; small = c.summed-total.ensures.1; sum_is = c.summed-total.ensures.0; rest = refl }
@@ -61,16 +63,16 @@ pub loop-left-smaller-then-is_accepted : goal.loop-left-smaller-then-is_accepted
 loop-left-smaller-then-is_accepted c = let h : 0 < c.loop-left.left = c.loop-left-test.true in omega arith
 
 pub loop-left-preserved-then-is_accepted : goal.loop-left-preserved-then-is_accepted
-loop-left-preserved-then-is_accepted c = rw c.size-at-then-laid.ensures (accepted_set_up_lem c.loop-left.invariant c.loop-left-test.true _ (rest c.loop-left.at c.args.s.now) c.next-found.result c.next-found.ensures (sym c.is_set_up.ensures ∙ c.if-is_set_up.true) (ap (λ (x : Option SetUp). x.whole) (sym c.set_up-laid.ensures) ∙ c.if-laid.true) c.set_up-started.result (c.set_up-started.ensures ∙ ap (λ (x : Option SetUp). accepted_set_up x.set_up) c.set_up-laid.ensures) c.set_up_told-tally.result c.set_up_told-tally.ensures (sym c.is_accepted.ensures ∙ c.if-is_accepted.true) c.summed-total-then-is_accepted.result (search (rules, long) depth 7) c.summed-total-then-is_accepted.ensures)
+loop-left-preserved-then-is_accepted c = rw c.size-at-then-laid.ensures (accepted_set_up_lem c.loop-left.invariant c.loop-left-test.true _ (rest c.loop-left.at c.args.s.now) c.next-found.result c.next-found.ensures (sym c.is_set_up.ensures ∙ c.if-is_set_up.true) (ap (λ (x : Option SetUp). is_some x) (sym c.set_up-laid.ensures) ∙ c.if-laid.true) c.set_up-started.result (c.set_up-started.ensures ∙ ap (λ (x : Option SetUp). accepted_set_up (set_up_or_none x)) c.set_up-laid.ensures) c.set_up_told-tally.result c.set_up_told-tally.ensures (sym c.is_accepted.ensures ∙ c.if-is_accepted.true) c.summed-total-then-is_accepted.result (search (rules, long) depth 7) c.summed-total-then-is_accepted.ensures)
 
 pub loop-left-smaller : goal.loop-left-smaller
 loop-left-smaller c = let h : 0 < c.loop-left.left = c.loop-left-test.true in omega arith
 
 pub loop-left-preserved : goal.loop-left-preserved
-loop-left-preserved c = rw c.size-at-then-laid.ensures (refused_set_up c.loop-left.invariant c.loop-left-test.true _ (rest c.loop-left.at c.args.s.now) c.next-found.result c.next-found.ensures (sym c.is_set_up.ensures ∙ c.if-is_set_up.true) (ap (λ (x : Option SetUp). x.whole) (sym c.set_up-laid.ensures) ∙ c.if-laid.true) c.set_up-started.result (c.set_up-started.ensures ∙ ap (λ (x : Option SetUp). accepted_set_up x.set_up) c.set_up-laid.ensures) c.set_up_told-tally.result c.set_up_told-tally.ensures (sym c.is_accepted.ensures ∙ c.if-is_accepted.false))
+loop-left-preserved c = rw c.size-at-then-laid.ensures (refused_set_up c.loop-left.invariant c.loop-left-test.true _ (rest c.loop-left.at c.args.s.now) c.next-found.result c.next-found.ensures (sym c.is_set_up.ensures ∙ c.if-is_set_up.true) (ap (λ (x : Option SetUp). is_some x) (sym c.set_up-laid.ensures) ∙ c.if-laid.true) c.set_up-started.result (c.set_up-started.ensures ∙ ap (λ (x : Option SetUp). accepted_set_up (set_up_or_none x)) c.set_up-laid.ensures) c.set_up_told-tally.result c.set_up_told-tally.ensures (sym c.is_accepted.ensures ∙ c.if-is_accepted.false))
 
 pub returns-then-is_set_up : goal.returns-then-is_set_up
-returns-then-is_set_up c = c.held.ensures ∙ stops_unlaid c.loop-left.invariant c.loop-left-test.true _ (rest c.loop-left.at c.args.s.now) c.next-found.result c.next-found.ensures (sym c.is_set_up.ensures ∙ c.if-is_set_up.true) (ap (λ (x : Option SetUp). x.whole) (sym c.set_up-laid.ensures) ∙ c.if-laid.false)
+returns-then-is_set_up c = c.held.ensures ∙ stops_unlaid c.loop-left.invariant c.loop-left-test.true _ (rest c.loop-left.at c.args.s.now) c.next-found.result c.next-found.ensures (sym c.is_set_up.ensures ∙ c.if-is_set_up.true) (ap (λ (x : Option SetUp). is_some x) (sym c.set_up-laid.ensures) ∙ c.if-laid.false)
 
 pub returns-in-loop-left : goal.returns-in-loop-left
 returns-in-loop-left c = c.held-in-loop-left.ensures ∙ stops_unread c.loop-left.invariant c.loop-left-test.true _ (rest c.loop-left.at c.args.s.now) c.next-found.result c.next-found.ensures (sym c.is_event.ensures ∙ c.if-is_event.false) (sym c.is_set_up.ensures ∙ c.if-is_set_up.false)

@@ -12,13 +12,13 @@ pub returns-then-is_supply : goal.returns-then-is_supply
 returns-then-is_supply c =
     let s = c.args.s.now in
     let q = c.loop-left in
-    c.supplied.ensures ∙ rw c.number.ensures (at_supply s q.u q.at q.left q.invariant.1 c.loop-left-test.true _ c.from-f.ensures (sym c.is_supply.ensures ∙ c.if-is_supply.true))
+    rw c.number.ensures (at_supply s q.u q.at q.left q.invariant.1 c.loop-left-test.true _ c.from-f.ensures (sym c.is_supply.ensures ∙ c.if-is_supply.true))
 
 pub returns-then-not-is_port : goal.returns-then-not-is_port
 returns-then-not-is_port c =
     let s = c.args.s.now in
     let q = c.loop-left in
-    c.not_laid.ensures ∙ at_neither s q.u q.at q.left q.invariant.1 c.loop-left-test.true _ c.from-f.ensures (sym c.is_supply.ensures ∙ c.if-is_supply.false) (sym c.is_port.ensures ∙ c.if-not-is_port.true)
+    at_neither s q.u q.at q.left q.invariant.1 c.loop-left-test.true _ c.from-f.ensures (sym c.is_supply.ensures ∙ c.if-is_supply.false) (sym c.is_port.ensures ∙ c.if-not-is_port.true)
 
 pub overflow_add-at : goal.overflow_add-at
 overflow_add-at c =
@@ -35,4 +35,4 @@ loop-left-preserved c =
     (within s q.at _ c.from-f.ensures q.invariant.0 port, at_port_lem s q.u q.at q.left q.invariant.1 c.loop-left-test.true _ c.from-f.ensures (sym c.is_supply.ensures ∙ c.if-is_supply.false) port)
 
 pub returns : goal.returns
-returns c = let q = c.loop-left in c.not_laid-2.ensures ∙ ended c.args.s.now q.u q.at q.left q.invariant.1 c.loop-left-test.false
+returns c = let q = c.loop-left in ended c.args.s.now q.u q.at q.left q.invariant.1 c.loop-left-test.false
