@@ -28,7 +28,6 @@ use Rattle.stimuli.specs.Leads.{leads}
 use Rattle.hearing.specs.Packets.{same_heard, on_packet}
 use Rattle.source.specs.Changes.{change_of}
 use Rattle.source.proofs.Finite.{everywhere, at_packets}
-use Rattle.port.specs.declared.Supply.{Supply}
 use Rattle.port.specs.declared.Port.{Port}
 use Rattle.port.specs.declared.Answer.{Answer}
 use Rattle.port.specs.declared.Event.{Event}
@@ -46,6 +45,7 @@ use Rattle.portclaims.proofs.Ways as Ways
 use Rattle.portclaims.proofs.Tables as Tables
 use Rattle.portclaims.proofs.Shapes.{Rule, by_attach, by_detach, by_hard_reset, by_acknowledgement, by_failure, by_sender_response, by_source_capability, by_ps_hard_reset, by_supply_ready, by_yes, by_no, by_offer_lem, New, fit_in, Shape, refused, idle, again, led, heard, shape}
 use Rattle.reading.specs.Reading.{message_with}
+use Rattle.reading.proofs.ReadsExactlyMessages.{same_message}
 use Rattle.std.specs.Prelude.{Some, None, Option}
 
 -- the bytes s are a new Request to port p that comes awaited or in Ready and fits the last offer put on the wire
@@ -106,9 +106,6 @@ module _ (p : Port) (s : List ℕ) (n : ℕ) (f : Fields) (read : read_of s ≡ 
         awaited = awaited;
         fitting = fit;
       }
-
-same_message : (m n : ℕ) (f g : Fields) → message_with m f ≡ message_with n g → (m ≡ n) × (f ≡ g)
-same_message m n f g e = (cc, cc)
 
 no_repeat : (b : Bool) → (b && true) ≡ false → b ≡ false
 no_repeat true e = e

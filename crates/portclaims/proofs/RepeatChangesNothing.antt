@@ -17,9 +17,10 @@ use Rattle.portclaims.specs.Repeats.{only_good_crc, aside}
 use Rattle.portclaims.proofs.Shapes.{fit_in}
 use Rattle.reading.specs.Reading.{message_with}
 use Rattle.std.specs.Prelude.{None, Option}
+use Rattle.source.specs.declared.Timer.{Timer}
 use Rattle.offers.specs.declared.Asked.{Asked}
 
-either_way : (b : Bool) → cond b None None ≡ None
+either_way : (b : Bool) → cond {A = Option Timer} b None None ≡ None
 either_way true = refl
 either_way false = refl
 

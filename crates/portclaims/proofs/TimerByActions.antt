@@ -110,7 +110,7 @@ and_false : (b : Bool) → (b && false) ≡ false
 and_false true = refl
 and_false false = refl
 
-either_way : (b : Bool) → cond b None None ≡ None
+either_way : (b : Bool) → cond {A = Option Timer} b None None ≡ None
 either_way true = refl
 either_way false = refl
 

@@ -220,7 +220,7 @@ Example7Begins =
 abbrev at_the_request : Actions
 at_the_request =
     record {
-      good_crc = record { sent = true; bytes = 0xA1 ∷ 0x03 ∷ [] };
+      good_crc = Some (0xA1 ∷ 0x03 ∷ []);
       stop = None;
       transmit = no_packet;
       hard_reset = false;
@@ -231,7 +231,7 @@ at_the_request =
 abbrev at_yes : Actions
 at_yes =
     record {
-      good_crc = record { sent = false; bytes = 0 ∷ 0 ∷ [] };
+      good_crc = None;
       stop = None;
       transmit = control_of Types.Accept 3;
       hard_reset = false;
@@ -253,7 +253,7 @@ Example7Answers =
 abbrev pub Example7Repeats : Type 0
 Example7Repeats =
     (step (at in_accepting) (packet asks_9v) ≡ only_good_crc (theirs 1 2) (at in_accepting))
-    × ((only_good_crc (theirs 1 2) (at in_accepting)).actions.good_crc.bytes ≡ 0xA1 ∷ 0x03 ∷ [])
+    × ((only_good_crc (theirs 1 2) (at in_accepting)).actions.good_crc ≡ Some (0xA1 ∷ 0x03 ∷ []))
     × (read_of asks_9v ≡ message_with 1 (theirs 1 2))
     × (listens (state_of (at in_accepting)) ≡ true)
     × (is_repeat (at in_accepting).channel 1 ≡ true)
