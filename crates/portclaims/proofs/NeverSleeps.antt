@@ -15,7 +15,7 @@ use Rattle.power.specs.declared.Standing.{Standing}
 use Rattle.power.specs.Power.{standing_of, changed}
 use Rattle.source.specs.declared.State.{State}
 use Rattle.source.specs.declared.Timer.{Timer}
-use Rattle.source.specs.declared.Timer.TheVariants.{SenderResponse, SourceCapability, PsHardReset}
+use Rattle.source.specs.declared.Timer.TheVariants.{SenderResponse}
 use Rattle.source.specs.States.{same, listens, running}
 use Rattle.stimuli.specs.Leads.{leads}
 use Rattle.hearing.specs.Packets.{on_packet}
@@ -43,9 +43,7 @@ at_rest s = same s State.Ready || same s State.Waiting
 
 abbrev runs : Option Timer → Bool
 runs None = false
-runs (Some SenderResponse) = true
-runs (Some SourceCapability) = true
-runs (Some PsHardReset) = true
+runs (Some t) = true
 
 abbrev pub waits : State → Bool → Bool
 waits s pending = at_rest s || (pending || (runs (running s pending) || (same s State.Judge || (same s State.Moving || same s State.Default))))

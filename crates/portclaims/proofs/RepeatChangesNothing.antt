@@ -31,13 +31,9 @@ nothing_else f p = rw (either_way (same (state_of p) (state_of p))) refl
 module _ (p : Port) (f : Fields) (fit : Option Asked) (again : is_repeat p.channel f.message_id ≡ true) where
   by_meaning_lem : (m : Meaning) → aside m ≡ false → by_meaning m p f fit ≡ only_good_crc f p
   unfolding by_meaning other_packet
-  by_meaning_lem Meaning.Unsupported e = rw again (nothing_else f p)
   by_meaning_lem Meaning.GoodCrc e = cc
-  by_meaning_lem Meaning.Reply e = rw again (nothing_else f p)
-  by_meaning_lem Meaning.GetSourceCap e = rw again (nothing_else f p)
   by_meaning_lem Meaning.SoftReset e = cc
-  by_meaning_lem Meaning.Quiet e = rw again (nothing_else f p)
-  by_meaning_lem Meaning.Request e = rw again (nothing_else f p)
+  by_meaning_lem m e = rw again (nothing_else f p)
 
 -- THE CLAIM
 pub repeat_changes_nothing : (p : Port) (s : List ℕ) (n : ℕ) (f : Fields) → listens (state_of p) ≡ true → read_of s ≡ message_with n f →

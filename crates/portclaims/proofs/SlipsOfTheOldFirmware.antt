@@ -111,21 +111,13 @@ answers_soft_reset s = listens s && not (is_stricter s)
 to_answering : (s : State) → answers_soft_reset s ≡ true → on_packet s Heard.SoftReset ≡ Some Way.Answering
 unfolding on_packet
 to_answering State.Detached e = true_not_false (sym e)
-to_answering State.Offer e = refl
-to_answering State.Discovery e = refl
 to_answering State.Disabled e = true_not_false (sym e)
-to_answering State.Judge e = refl
 to_answering State.Accepting e = true_not_false (sym e)
 to_answering State.Moving e = true_not_false (sym e)
 to_answering State.Telling e = true_not_false (sym e)
-to_answering State.Ready e = refl
-to_answering State.Declining e = refl
-to_answering State.Refusing e = refl
-to_answering State.Waiting e = refl
-to_answering State.Soft e = refl
-to_answering State.Answering e = refl
 to_answering State.Hard e = true_not_false (sym e)
 to_answering State.Default e = true_not_false (sym e)
+to_answering s e = refl
 
 never_a_repeat : (b : Bool) → (b && false) ≡ false
 never_a_repeat true = refl
@@ -136,19 +128,7 @@ unfolding on_packet
 to_hard State.Accepting e = (refl, refl)
 to_hard State.Moving e = (refl, refl)
 to_hard State.Telling e = (refl, refl)
-to_hard State.Detached e = true_not_false (sym e)
-to_hard State.Offer e = true_not_false (sym e)
-to_hard State.Discovery e = true_not_false (sym e)
-to_hard State.Disabled e = true_not_false (sym e)
-to_hard State.Judge e = true_not_false (sym e)
-to_hard State.Ready e = true_not_false (sym e)
-to_hard State.Declining e = true_not_false (sym e)
-to_hard State.Refusing e = true_not_false (sym e)
-to_hard State.Waiting e = true_not_false (sym e)
-to_hard State.Soft e = true_not_false (sym e)
-to_hard State.Answering e = true_not_false (sym e)
-to_hard State.Hard e = true_not_false (sym e)
-to_hard State.Default e = true_not_false (sym e)
+to_hard s e = true_not_false (sym e)
 
 -- THE CLAIM: whatever MessageID is stored, a Soft_Reset is answered with Accept from counter 0, and its MessageID stored
 pub soft_reset_is_no_repeat : (p : Port) (s : List ℕ) (n : ℕ) (f : Fields) → read_of s ≡ message_with n f → meaning_in n f ≡ Meaning.SoftReset →

@@ -31,19 +31,7 @@ unfolding on_packet
 to_refusing State.Offer e = refl
 to_refusing State.Discovery e = refl
 to_refusing State.Ready e = refl
-to_refusing State.Detached e = true_not_false (sym e)
-to_refusing State.Disabled e = true_not_false (sym e)
-to_refusing State.Judge e = true_not_false (sym e)
-to_refusing State.Accepting e = true_not_false (sym e)
-to_refusing State.Moving e = true_not_false (sym e)
-to_refusing State.Telling e = true_not_false (sym e)
-to_refusing State.Declining e = true_not_false (sym e)
-to_refusing State.Refusing e = true_not_false (sym e)
-to_refusing State.Waiting e = true_not_false (sym e)
-to_refusing State.Soft e = true_not_false (sym e)
-to_refusing State.Answering e = true_not_false (sym e)
-to_refusing State.Hard e = true_not_false (sym e)
-to_refusing State.Default e = true_not_false (sym e)
+to_refusing s e = true_not_false (sym e)
 
 -- THE CLAIM
 pub unfit_is_rejected : (p : Port) (s : List ℕ) (n : ℕ) (f : Fields) → New p s n f Meaning.Request → awaits_request (state_of p) ≡ true →
