@@ -26,7 +26,7 @@ use Rattle.portclaims.specs.Between.{calm, is_made, worth_in, Between}
 use Rattle.portclaims.proofs.Truth.{holds, true_not_false, second, not_true}
 use Rattle.portclaims.proofs.Ways as Ways
 use Rattle.portclaims.proofs.Led.{at_way}
-use Rattle.portclaims.proofs.Shapes.{Rule, by_attach, by_detach, fit_in, Shape, refused, idle, again, led, heard, shape}
+use Rattle.portclaims.proofs.Shapes.{Rule, by_attach, fit_in, Shape, refused, idle, again, led, heard, shape}
 use Rattle.std.specs.Prelude.{Some, None, Option}
 use Rattle.std.specs.Prelude.{List, ℕ}
 
@@ -74,7 +74,6 @@ module _ (p : Port) (k : Between p) where
     where
       so_same : T (same (state_of p) State.Detached) → same (state_of p) State.Detached ≡ true
       so_same x = holds (same (state_of p) State.Detached) x
-  by_rule c e q t by_detach way l = refl
   by_rule c e q t rule way l = refl
 
   by_shape : (c : Call) (a : Answer) → Shape p c a → a.port.power.held ≡ held_after a.held p.power.held p.power.accepted.worth
