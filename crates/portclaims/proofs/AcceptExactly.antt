@@ -60,16 +60,11 @@ pub record FittingRequest (p : Port) (s : List ℕ) : Type 0 where
 to_judge : (s : State) → awaits_request s ≡ true → on_packet s Heard.FittingRequest ≡ Some Way.Judge
 unfolding on_packet
 to_judge State.Offer e = refl
-to_judge State.Discovery e = refl
-to_judge State.Ready e = refl
-to_judge s e = true_not_false (sym e)
+to_judge s e = cc
 
 listens_then : (s : State) → awaits_request s ≡ true → listens s ≡ true
-listens_then State.Detached e = true_not_false (sym e)
-listens_then State.Disabled e = true_not_false (sym e)
-listens_then State.Hard e = true_not_false (sym e)
-listens_then State.Default e = true_not_false (sym e)
-listens_then s e = refl
+listens_then State.Offer e = refl
+listens_then s e = cc
 
 -- the same, part by part
 module _ (p : Port) (s : List ℕ) (n : ℕ) (f : Fields) (read : read_of s ≡ message_with n f) (request : meaning_in n f ≡ Meaning.Request) where

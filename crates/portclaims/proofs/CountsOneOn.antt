@@ -53,9 +53,7 @@ is_aside w = not (is_sending w || is_hard w)
 
 over_there : (s : State) (w : Way) → Ways.is_over w ≡ true → starts_over (Ways.state_after s w) ≡ true
 over_there s Way.Soft e = refl
-over_there s Way.Hard e = refl
-over_there s Way.HardHeard e = refl
-over_there s w e = true_not_false (sym e)
+over_there s w e = cc
 
 -- ---- a turn of a port whose counter has gone one on
 module _ (p q : Port) (s : State) (crc : Option (List ℕ)) (t : Option Timer) (c : Change) (w : Way) (a : Asked) where

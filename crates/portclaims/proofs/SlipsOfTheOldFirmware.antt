@@ -110,14 +110,8 @@ answers_soft_reset s = listens s && not (is_stricter s)
 
 to_answering : (s : State) → answers_soft_reset s ≡ true → on_packet s Heard.SoftReset ≡ Some Way.Answering
 unfolding on_packet
-to_answering State.Detached e = true_not_false (sym e)
-to_answering State.Disabled e = true_not_false (sym e)
-to_answering State.Accepting e = true_not_false (sym e)
-to_answering State.Moving e = true_not_false (sym e)
-to_answering State.Telling e = true_not_false (sym e)
-to_answering State.Hard e = true_not_false (sym e)
-to_answering State.Default e = true_not_false (sym e)
-to_answering s e = refl
+to_answering State.Offer e = refl
+to_answering s e = cc
 
 never_a_repeat : (b : Bool) → (b && false) ≡ false
 never_a_repeat true = refl
@@ -126,9 +120,7 @@ never_a_repeat false = refl
 to_hard : (s : State) → is_stricter s ≡ true → (listens s ≡ true) × (on_packet s Heard.SoftReset ≡ Some Way.Hard)
 unfolding on_packet
 to_hard State.Accepting e = (refl, refl)
-to_hard State.Moving e = (refl, refl)
-to_hard State.Telling e = (refl, refl)
-to_hard s e = true_not_false (sym e)
+to_hard s e = (cc, cc)
 
 -- THE CLAIM: whatever MessageID is stored, a Soft_Reset is answered with Accept from counter 0, and its MessageID stored
 pub soft_reset_is_no_repeat : (p : Port) (s : List ℕ) (n : ℕ) (f : Fields) → read_of s ≡ message_with n f → meaning_in n f ≡ Meaning.SoftReset →
