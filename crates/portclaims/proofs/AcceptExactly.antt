@@ -9,7 +9,7 @@ use lib.Dec.{T, eqb}
 use Rattle.message.specs.declared.Fields.{Fields}
 use Rattle.message.specs.Types as Types
 use Rattle.meaning.specs.declared.Meaning.{Meaning}
-use Rattle.reading.specs.Reading.{read_of, part_of}
+use Rattle.reading.specs.Reading.{read_of, part_of, message_with}
 use Rattle.offers.specs.declared.Asked.{Asked}
 use Rattle.offers.specs.declared.Offer.{Offer}
 use Rattle.offers.specs.Requests.{fits, asked, judged, fit_of}
@@ -44,7 +44,6 @@ use Rattle.portclaims.proofs.Led.{turn_state, led_state, at_way, is_same}
 use Rattle.portclaims.proofs.Ways as Ways
 use Rattle.portclaims.proofs.Tables as Tables
 use Rattle.portclaims.proofs.Shapes.{Rule, by_yes, New, fit_in, Shape, refused, idle, again, led, heard, shape}
-use Rattle.reading.specs.Reading.{message_with}
 use Rattle.reading.proofs.ReadsExactlyMessages.{same_message}
 use Rattle.std.specs.Prelude.{Some, None, Option}
 

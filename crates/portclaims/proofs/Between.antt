@@ -45,12 +45,8 @@ Known p = (id : ℕ) → p.channel.stored ≡ Some id → p.connected ≡ true
 abbrev Shown : Port → Type 0
 Shown p = p.gone_out ≡ true → p.newest ≡ p.last
 
-abbrev is_none : Option ℕ → Bool
-is_none None = true
-is_none (Some id) = false
-
 none_stored : {A : Type 0} (id : ℕ) → None ≡ Some id → A
-none_stored id e = true_not_false (ap is_none e)
+none_stored id e = cc
 
 known_enters : (w : Way) (a : Asked) (p : Port) → Known p → Known (enter w a p).port
 unfolding enter sends
@@ -82,11 +78,9 @@ unfolding enter
 reset_enters Way.Stay a p k d h = k h
 reset_enters Way.Offered a p k d h = k h
 reset_enters Way.Softened a p k d h = k h
-reset_enters Way.Hard a p k d h = refl
-reset_enters Way.HardHeard a p k d h = refl
 reset_enters Way.Default a p k d h = d refl
 reset_enters Way.Detached a p k d h = d refl
-reset_enters w a p k d h = true_not_false (sym h)
+reset_enters w a p k d h = cc
 
 -- ---- what a change does
 module _ (p : Port) where
@@ -143,9 +137,6 @@ module _ (p : Port) (k : Between p) where
     pub held : in_between (state_of q) ≡ false → q.power.held ≡ worth_in q.power.contract
     pub counted : q.count ≤ most_offers
     pub possible : Tables.possible e (pending_in p) ≡ true
-
-  abbrev same_port : (e : Stimulus) → Type 0
-  same_port e = Ruled e p
 
   ruled_cleared : (e : Stimulus) → Tables.ruled_state e (state_of p) ≡ State.Detached → Tables.ruled_pending e (pending_in p) ≡ false → Tables.ruled_gone_out e p.gone_out ≡ false →
       Tables.ruled_made e (is_made p.power.contract) ≡ false → Tables.possible e (pending_in p) ≡ true → Ruled e (cleared p)

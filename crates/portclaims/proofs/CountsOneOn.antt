@@ -35,8 +35,7 @@ use Rattle.portclaims.proofs.Ways as Ways
 use Rattle.portclaims.proofs.Tables as Tables
 use Rattle.portclaims.proofs.Led.{change_channel, turn_state, led_state, at_way}
 use Rattle.portclaims.proofs.Shapes.{Rule, by_attach, by_detach, by_acknowledgement, by_failure, fit_in, Shape, refused, idle, again as sent_again, led, heard, shape}
-use Rattle.std.specs.Prelude.{Some, None, Option}
-use Rattle.std.specs.Prelude.{List}
+use Rattle.std.specs.Prelude.{Some, None, Option, List}
 
 abbrev pub starts_over : State → Bool
 starts_over s = (same s State.Soft || same s State.Hard) || (same s State.Answering || same s State.Detached)

@@ -27,8 +27,7 @@ use Rattle.portclaims.proofs.Truth.{holds, true_not_false, second, not_true}
 use Rattle.portclaims.proofs.Ways as Ways
 use Rattle.portclaims.proofs.Led.{at_way}
 use Rattle.portclaims.proofs.Shapes.{Rule, by_attach, fit_in, Shape, refused, idle, again, led, heard, shape}
-use Rattle.std.specs.Prelude.{Some, None, Option}
-use Rattle.std.specs.Prelude.{List, ℕ}
+use Rattle.std.specs.Prelude.{Some, None, Option, List, ℕ}
 
 with_change_lem : (c : Change) (q : Port) → (with_change c q).power.held ≡ held_after c q.power.held q.power.accepted.worth
 unfolding changed

@@ -18,8 +18,7 @@ use Rattle.portclaims.proofs.Groups.{clears, expiring}
 use Rattle.portclaims.proofs.Ways as Ways
 use Rattle.portclaims.proofs.Tables as Tables
 use Rattle.portclaims.proofs.Shapes.{is_expiry, Rule, by_acknowledgement, by_failure}
-use Rattle.std.specs.Prelude.{Some, None, Option}
-use Rattle.std.specs.Prelude.{List, ℕ}
+use Rattle.std.specs.Prelude.{Some, None, Option, List, ℕ}
 
 pub change_state : (p : Port) (c : Change) → state_of (with_change c p) ≡ state_of p
 change_state p Change.Nothing = refl

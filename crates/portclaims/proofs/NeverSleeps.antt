@@ -8,7 +8,7 @@ use mathlib.Core.List.{List}
 use lib.Dec.{T, ltb, leb, eqb}
 use Rattle.message.specs.declared.Fields.{Fields}
 use Rattle.meaning.specs.declared.Meaning.{Meaning}
-use Rattle.reading.specs.Reading.{read_of}
+use Rattle.reading.specs.Reading.{read_of, message_with}
 use Rattle.channel.specs.Channel.{pending_id, most_retries}
 use Rattle.channel.specs.Outcomes.{on_good_crc}
 use Rattle.power.specs.declared.Standing.{Standing}
@@ -34,7 +34,6 @@ use Rattle.portclaims.specs.Messages.{by_timer}
 use Rattle.portclaims.proofs.Shapes.{New}
 use Rattle.portclaims.proofs.Truth.{then, and, first}
 use Rattle.portclaims.proofs.FailedSends.{again_or_failed}
-use Rattle.reading.specs.Reading.{message_with}
 use Rattle.std.specs.Prelude.{Some, None, Option}
 
 -- ---- what a port waits for

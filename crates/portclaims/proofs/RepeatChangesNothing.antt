@@ -6,7 +6,7 @@ use mathlib.Core.Bool.{Bool, true, false, cond}
 use mathlib.Core.List.{List}
 use Rattle.message.specs.declared.Fields.{Fields}
 use Rattle.meaning.specs.declared.Meaning.{Meaning}
-use Rattle.reading.specs.Reading.{read_of}
+use Rattle.reading.specs.Reading.{read_of, message_with}
 use Rattle.channel.specs.Channel.{is_repeat}
 use Rattle.source.specs.States.{same, listens}
 use Rattle.port.specs.declared.Port.{Port}
@@ -15,7 +15,6 @@ use Rattle.port.specs.Steps.{nothing_done}
 use Rattle.port.specs.Packets.{meaning_in, crc_for, other_packet, by_meaning, message_of, packet_of}
 use Rattle.portclaims.specs.Repeats.{only_good_crc, aside}
 use Rattle.portclaims.proofs.Shapes.{fit_in}
-use Rattle.reading.specs.Reading.{message_with}
 use Rattle.std.specs.Prelude.{None, Option}
 use Rattle.source.specs.declared.Timer.{Timer}
 use Rattle.offers.specs.declared.Asked.{Asked}

@@ -8,7 +8,7 @@ use lib.Dec.{T, ltb, leb}
 use Rattle.message.specs.declared.Fields.{Fields}
 use Rattle.message.specs.Types as Types
 use Rattle.meaning.specs.declared.Meaning.{Meaning}
-use Rattle.reading.specs.Reading.{read_of, part_of}
+use Rattle.reading.specs.Reading.{read_of, part_of, message_with}
 use Rattle.offers.specs.declared.Offer.{Offer}
 use Rattle.offers.specs.Requests.{asked}
 use Rattle.outgoing.specs.Packets.{no_packet, control_of, data_of}
@@ -47,7 +47,6 @@ use Rattle.portclaims.proofs.HeldByChange.{held_by_change}
 use Rattle.portclaims.proofs.AcceptExactly.{FittingRequest, comes_to_ask, AskedBy, by_packet, asks_only_so}
 use Rattle.portclaims.proofs.FailedSends.{again_or_failed, offer_fails_unconnected}
 use Rattle.portclaims.proofs.Shapes.{Shape, refused, idle, again, led, heard, shape}
-use Rattle.reading.specs.Reading.{message_with}
 use Rattle.std.specs.Prelude.{Some, None, Option}
 
 -- ---- "Old power let go when the new Accept goes out, though the output has not moved."

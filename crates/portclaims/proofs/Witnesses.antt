@@ -13,7 +13,7 @@ use Rattle.message.specs.Types as Types
 use Rattle.message.specs.declared.Fields.{Fields}
 use Rattle.meaning.specs.declared.Meaning.{Meaning}
 use Rattle.meaning.specs.Meaning.{meaning_of}
-use Rattle.reading.specs.Reading.{read_of, reading_tried, part_of}
+use Rattle.reading.specs.Reading.{read_of, reading_tried, part_of, message_with}
 use Rattle.offers.specs.declared.Offer.{Offer}
 use Rattle.offers.specs.Offers.{object_at, good_object, good_from, good_offer}
 use Rattle.offers.specs.Requests.{fits, asked, fit_of, is_honoured}
@@ -44,7 +44,6 @@ use Rattle.portclaims.proofs.Shapes.{New}
 use Rattle.portclaims.proofs.AcceptExactly.{FittingRequest}
 use Rattle.portclaims.proofs.Groups.{is_stricter}
 use Rattle.portclaims.proofs.SlipsOfTheOldFirmware.{answers_soft_reset}
-use Rattle.reading.specs.Reading.{message_with}
 use Rattle.std.specs.Prelude.{Some, None, Err}
 
 -- ---- offers: both objects, and 5 V 1 A alone, after which a contract for 3 A no longer stands
