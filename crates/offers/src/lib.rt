@@ -102,43 +102,30 @@ fn good_object(limit: u32, x: u32) -> bool
     (x / 1073741824 % 4 == 0) & (v <= 400) & (c <= 500) & (w <= limit)
 }
 
-// Whether the first objects are good, each of a higher voltage than the one before it.
-fn good_objects(limit: u32, objects: [u32; 7], n: usize) -> bool
-    requires { n ≤ 7 }
-    ensures { result ≡ good_from limit 0 (take n objects) }
+// Whether these objects are good, each of a higher voltage than the one before it.
+#[tactic(auto, using(crate::proofs::Laws::go_on, crate::proofs::Laws::stop, crate::proofs::Laws::all_done))]
+fn good_objects(limit: u32, objects: &[u32]) -> bool
+    ensures { result ≡ good_from limit 0 objects.now }
 {
     let mut before: u32 = 0;
-    let mut i: usize = 0;
-    while i < n {
-        let x = objects[i];
+    for &x in objects {
         let v = voltage(x);
-        if good_object(limit, x) & (before < v) {
-            before = v;
-            i += 1;
-        } else {
+        if !(good_object(limit, x) && before < v) {
             return false;
         }
+        before = v;
     }
     true
 }
 
 // Whether an offer is good for a port with this limit.
+#[tactic(auto, unfolding(crate::specs::Offers::good_offer))]
 pub fn good(limit: u32, o: Offer) -> bool
     ensures { result ≡ good_offer limit o }
 {
-    let objects = o.objects;
     let n = o.count as usize;
     let first = voltage(object_at(o, 1)) == 100;
-    if n < 1 {
-        return false;
-    }
-    if 7 < n {
-        return false;
-    }
-    if first {
-        return good_objects(limit, objects, n);
-    }
-    false
+    (1..=7).contains(&n) && first && good_objects(limit, &o.objects[..n])
 }
 
 // Whether a Request of this many objects fits an offer. With capability mismatch set its maximum may
