@@ -79,17 +79,14 @@ fn has_object(o: Offer, position: u8) -> bool
 }
 
 // The object at a position, counted from 1; zero where no object can be.
+#[tactic(auto, using(crate::proofs::Laws::before_first, crate::proofs::Laws::past_last, crate::proofs::Laws::at_position), unfolding(crate::specs::Offers::object_at))]
 fn object_at(o: Offer, position: u8) -> u32
     ensures { result ≡ object_at o position }
 {
-    let objects = o.objects;
-    if position < 1 {
-        return 0;
+    match position {
+        1..=7 => o.objects[(position - 1) as usize],
+        _ => 0,
     }
-    if 7 < position {
-        return 0;
-    }
-    objects[(position - 1) as usize]
 }
 
 // Whether an object may stand in an offer of a port with this limit.
