@@ -50,8 +50,7 @@ const NO_OFFER: Offer = Offer {
 fn good_setting(s: Setting) -> bool
     ensures { result ≡ good_setting s }
 {
-    let o = s.offer;
-    let offered = offers::good(s.limit, o);
+    let offered = offers::good(s.limit, s.offer);
     (LEAST <= s.share) & (s.share <= s.limit) & (s.limit <= LARGEST_LIMIT) & offered
 }
 
@@ -60,22 +59,15 @@ pub fn good(u: SetUp) -> bool
     ensures { result ≡ good_set_up u }
 {
     let n = u.count as usize;
+    if n < 1 || PORTS < n {
+        return false;
+    }
     let mut shares: u64 = 0;
-    let mut i: usize = 0;
-    if n < 1 {
-        return false;
-    }
-    if PORTS < n {
-        return false;
-    }
-    while i < n {
-        let s = u.settings[i];
-        if good_setting(s) {
-            shares += s.share as u64;
-            i += 1;
-        } else {
+    for &s in &u.settings[..n] {
+        if !good_setting(s) {
             return false;
         }
+        shares += s.share as u64;
     }
     (LEAST <= u.supply) & (u.supply <= LARGEST_SUPPLY) & (shares <= u.supply as u64)
 }
@@ -84,10 +76,8 @@ pub fn good(u: SetUp) -> bool
 fn slot_of(s: Setting) -> Slot
     ensures { result ≡ slot_of s }
 {
-    let o = s.offer;
-    let port = Port::new(o);
     Slot {
-        port: port,
+        port: Port::new(s.offer),
         share: s.share,
         limit: s.limit,
     }
@@ -96,31 +86,20 @@ fn slot_of(s: Setting) -> Slot
 fn slots_of(settings: [Setting; PORTS]) -> [Slot; PORTS]
     ensures { result ≡ map slot_of settings }
 {
-    let first = settings[0];
-    let mut slots = [slot_of(first); PORTS];
-    let mut i: usize = 0;
-    while i < PORTS {
-        let s = settings[i];
-        slots[i] = slot_of(s);
-        i += 1;
-    }
-    slots
+    settings.map(slot_of)
 }
 
 // A rack without ports.
 fn no_rack() -> Rack
     ensures { result ≡ no_rack }
 {
-    let offer = NO_OFFER;
-    let port = Port::new(offer);
     let nobody = Slot {
-        port: port,
+        port: Port::new(NO_OFFER),
         share: 0,
         limit: 0,
     };
-    let slots = [nobody; PORTS];
     Rack {
-        slots: slots,
+        slots: [nobody; PORTS],
         count: 0,
         supply: 0,
     }
@@ -131,10 +110,8 @@ pub fn set_up(u: SetUp) -> Started
     ensures { result ≡ accepted_set_up u }
 {
     if good(u) {
-        let settings = u.settings;
-        let slots = slots_of(settings);
         let rack = Rack {
-            slots: slots,
+            slots: slots_of(u.settings),
             count: u.count,
             supply: u.supply,
         };
