@@ -78,11 +78,11 @@ fn answered(t: Tally, number: u8, was: State, a: Answer) -> Sums
 fn ports(count: u8) -> usize
     ensures { result ≡ min count most_ports }
 {
-    let n = count as usize;
-    if n < PORTS { n } else { PORTS }
+    (count as usize).min(PORTS)
 }
 
-// Whether a rack of this count has a port of this number.
+// Whether a rack of this count has a port of this number. `Rack::has` takes a whole rack, and the loop holds
+// its parts: a call would copy all slots at each event.
 fn is_in(count: u8, number: u8) -> bool
     ensures { result ≡ (leb 1 number && leb number (min count most_ports)) }
 {
@@ -99,17 +99,14 @@ fn is_accepted(v: Verdict) -> bool
     }
 }
 
-// What all ports take of the supply; and no port takes more than a number of its size can say.
+// What all ports take of the supply; and no port takes more than a number of its size can say, of which the
+// contract of `Rack::load` says nothing.
 fn summed(r: Rack) -> u64
     ensures { (result ≡ loads r) × Small r }
 {
-    let n = ports(r.count);
     let mut total: u64 = 0;
-    let mut i: usize = 0;
-    while i < n {
-        let s = r.slots[i];
+    for s in &r.slots[..ports(r.count)] {
         total += s.load() as u64;
-        i += 1;
     }
     total
 }
