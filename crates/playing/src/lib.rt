@@ -145,9 +145,8 @@ pub fn night(r: Rack, t: Tally, s: &[u8]) -> Played
     let mut total = summed(r);
     let mut tally = t;
     let mut at: usize = 0;
-    let mut left = s.len();
-    while 0 < left {
-        left -= 1;
+    // There are at most as many fields as bytes.
+    for _ in 0..s.len() {
         let f = &s[at..];
         let found = night::next(f);
         if turns::is_event(found) {

@@ -1,10 +1,9 @@
 -- `playing::summed` meets its contract: the loop has the load of the ports passed. Assumes nothing.
-use Prim.Native.Nat.{◌<◌}
 use Rattle.std.proofs.Common.{rules}
 use native.Mathlib.Omega.{arith}
 use mathlib.Core.Path.{◌≡◌}
 use lib.ListN.{length}
-use Rattle.rack.specs.Ports.{most_ports, ports_in}
+use Rattle.rack.specs.Ports.{most_ports}
 use Rattle.rack.proofs.Loads.{load_all, long}
 use Rattle.playing.proofs.summed.Goals as goal
 
