@@ -1,5 +1,4 @@
 pub mod Answers
-pub mod Keeping
 pub mod Through
 pub mod PortAlone
 pub mod NothingLoose
