@@ -6,7 +6,7 @@
 ghost use Rattle.std.specs.Prelude.{◌≡◌};
 ghost use Rattle.plan.specs.Plans.{met_event, met_packet, met_offer, done_of};
 
-use ground::{Refusal, Verdict};
+use ground::Refusal;
 use offers::{Asked, Offer};
 use port::{Answer, Event, Port};
 use power::Change;
@@ -47,10 +47,9 @@ pub struct Met {
     pub asked: Asked,
 }
 
-// What is to be done.
+// What is to be done, where nothing is refused.
 #[derive(Clone, Copy)]
 pub struct Plan {
-    pub verdict: Verdict,
     pub prior: Prior,
     pub crc: Option<HeaderBytes>,
     pub runs: Option<Timer>,
@@ -88,6 +87,8 @@ pub fn new_offer(limit: u32, o: Offer) -> Met
 pub fn done(t: Slot, o: Offer, m: Met, others: u64, supply: u32) -> Answer
     ensures { result ≡ done_of t o m others supply }
 {
-    let x = deciding::decided(t.port, m);
-    doing::by_verdict(t.port, o, deciding::settled(t, x, others, supply))
+    match deciding::decided(t.port, m) {
+        Ok(x) => doing::performed(t.port, o, deciding::settled(t, x, others, supply)),
+        Err(r) => doing::refused(r, t.port),
+    }
 }
