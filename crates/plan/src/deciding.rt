@@ -9,7 +9,7 @@ use crate::{Cue, Met, Plan};
 use ground::Refusal;
 use port::Port;
 use power::Change;
-use slot::Slot;
+use slot::{Beside, Slot};
 use source::{Heard, Stimulus, Timer, Way};
 
 fn goes(m: Met, runs: Option<Timer>, change: Change, asks: bool, way: Way) -> Plan
@@ -89,11 +89,11 @@ fn answered(x: Plan, yes: bool) -> Plan
 
 // With the power answer, where it is asked for.
 #[tactic(auto, unfolding(crate::specs::Plans::with_answer))]
-pub(crate) fn settled(t: Slot, x: Plan, others: u64, supply: u32) -> Plan
-    ensures { result ≡ with_answer t others supply x }
+pub(crate) fn settled(t: Slot, x: Plan, beside: Beside) -> Plan
+    ensures { result ≡ with_answer t beside.others beside.supply x }
 {
     if x.asks {
-        answered(x, t.approves(others, supply, x.asked.worth))
+        answered(x, t.approves(beside, x.asked.worth))
     } else {
         x
     }
