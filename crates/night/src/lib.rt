@@ -32,7 +32,7 @@ pub enum Found {
 pub(crate) fn from(s: &[u8], at: usize) -> &[u8]
     ensures { result.now ≡ drop at s.now }
 {
-    if at <= s.len() { &s[at..] } else { &s[..0] }
+    if at <= s.len() { &s[at..] } else { &[] }
 }
 
 // The length of a field's value.
@@ -55,10 +55,7 @@ pub(crate) fn value(s: &[u8]) -> &[u8]
     ensures { result.now ≡ value_of s.now }
 {
     let n = size(s);
-    if s.len() < n {
-        return &s[..0];
-    }
-    &s[3..n]
+    if n <= s.len() { &s[3..n] } else { &[] }
 }
 
 // A number of four bytes at a place, least byte first.
@@ -103,19 +100,13 @@ fn if_fits(fits: bool, n: Found) -> Found
 fn kind(tag: u8, length: usize, port: u8) -> Found
     ensures { result ≡ kind_of tag length port }
 {
-    if tag == 34 {
-        return if_fits(1 <= length, Found::Packet(port));
+    match tag {
+        16 => Found::SetUp,
+        34 => if_fits(1 <= length, Found::Packet(port)),
+        41 => if_fits(length % 4 == 1, Found::NewOffer(port)),
+        32..=43 => if_fits(length == 1, Found::Event(port, event_of(tag))),
+        _ => Found::UnknownTag,
     }
-    if tag == 41 {
-        return if_fits(length % 4 == 1, Found::NewOffer(port));
-    }
-    if tag == 16 {
-        return Found::SetUp;
-    }
-    if (32 <= tag) & (tag <= 43) {
-        return if_fits(length == 1, Found::Event(port, event_of(tag)));
-    }
-    Found::UnknownTag
 }
 
 // The next field of some bytes.
@@ -124,9 +115,10 @@ pub fn next(s: &[u8]) -> Found
     ensures { result ≡ next_of s.now }
 {
     if size(s) <= s.len() {
-        return kind(message::byte(s, 0), length(s), message::byte(s, 3));
+        kind(message::byte(s, 0), length(s), message::byte(s, 3))
+    } else {
+        Found::Cut
     }
-    Found::Cut
 }
 
 // What stands behind the port's number: that part of the bytes themselves.
@@ -134,13 +126,11 @@ pub fn behind(s: &[u8]) -> &[u8]
     ensures { Behind s.entry result }
 {
     let n = size(s);
-    if n < 4 {
-        return &s[..0];
+    if 4 <= n && n <= s.len() {
+        &s[4..n]
+    } else {
+        &s[..0]
     }
-    if s.len() < n {
-        return &s[..0];
-    }
-    &s[4..n]
 }
 
 // How many objects some bytes are, as far as a count goes.

@@ -41,7 +41,7 @@ fn setting_of(v: &[u8]) -> Setting
     Setting {
         share: crate::number(v, 3),
         limit: crate::number(v, 10),
-        offer: offer,
+        offer,
     }
 }
 

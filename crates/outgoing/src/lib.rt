@@ -29,12 +29,8 @@ pub fn control(message_type: u8, message_id: u8) -> Packet
 {
     let h = header_bytes(our_fields(message_type, message_id), 0);
     let mut bytes = [0u8; 30];
-    bytes[0] = h[0];
-    bytes[1] = h[1];
-    Packet {
-        bytes: bytes,
-        length: 2,
-    }
+    bytes[..2].copy_from_slice(&h);
+    Packet { bytes, length: 2 }
 }
 
 // A data message of ours with the first so many of seven objects.

@@ -13,6 +13,7 @@ use message::Fields;
 use offers::{Asked, Offer};
 use port::{Event, Port, packets};
 use power::NOTHING_ASKED;
+use reading::Message;
 use source::Stimulus;
 
 fn plain(cue: Cue, prior: Prior) -> Met
@@ -99,24 +100,25 @@ fn is_good_crc(m: Meaning) -> bool
 
 // By what a packet means; whether a Request fits is asked only of a new packet.
 #[tactic(auto, unfolding(crate::specs::Plans::met_meaning))]
-fn by_meaning(m: Meaning, p: Port, f: Fields, objects: u8, request: u32) -> Met
-    ensures { result ≡ met_meaning m p f (fit_of objects request p.last) }
+fn by_meaning(meaning: Meaning, p: Port, m: Message, request: u32) -> Met
+    ensures { result ≡ met_meaning meaning p m.fields (fit_of m.objects request p.last) }
 {
-    if is_good_crc(m) {
+    let f = m.fields;
+    if is_good_crc(meaning) {
         return outcome(p.channel.good_crc(f.message_id), Cue::Done);
     }
-    if p.channel.repeats(f.message_id) & !packets::is_soft_reset(m) {
+    if p.channel.repeats(f.message_id) & !packets::is_soft_reset(meaning) {
         return repeat(f);
     }
-    new_packet(f, m, offers::judge(objects, request, p.last))
+    new_packet(f, meaning, offers::judge(m.objects, request, p.last))
 }
 
 #[tactic(auto, unfolding(crate::specs::Plans::met_message))]
-fn message(p: Port, objects: u8, f: Fields, request: u32) -> Met
-    ensures { result ≡ met_message p objects f (fit_of objects request p.last) }
+fn message(p: Port, m: Message, request: u32) -> Met
+    ensures { result ≡ met_message p m.objects m.fields (fit_of m.objects request p.last) }
 {
     if source::listens(p.state) {
-        by_meaning(packets::meaning_in(objects, f), p, f, objects, request)
+        by_meaning(packets::meaning_in(m), p, m, request)
     } else {
         plain(Cue::Refused(Refusal::NotAwaited), Prior::Nothing)
     }
@@ -129,7 +131,7 @@ pub(crate) fn packet(p: Port, s: &[u8]) -> Met
     match reading::read(s) {
         Ok(m) => {
             let request = packets::first_object(reading::objects(s));
-            message(p, m.objects, m.fields, request)
+            message(p, m, request)
         }
         Err(no) => plain(Cue::Refused(no), Prior::Nothing),
     }

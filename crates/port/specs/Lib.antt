@@ -4,3 +4,4 @@ pub mod Entering
 pub mod Steps
 pub mod Packets
 pub mod Calls
+pub mod Controls

@@ -2,6 +2,7 @@
 ghost use Rattle.std.specs.Prelude.{◌≡◌, ◌+◌};
 ghost use Rattle.message.specs.Types as Types;
 ghost use Rattle.port.specs.Parts.{to, power_is};
+ghost use Rattle.port.specs.Controls.{type_of};
 ghost use Rattle.port.specs.Entering.{doing, quiet, starts, supplies, transmits, tells, capabilities, offering, one_offer, unchannelled, hardened, enter};
 ghost use Rattle.source.specs.declared.State.{State};
 ghost use Rattle.source.specs.declared.Way.{Way};
@@ -12,17 +13,18 @@ use offers::Asked;
 use outgoing::{NO_PACKET, Packet};
 use source::{State, Timer, Way};
 
+// Source_Capabilities, the data message that we send, by its type (000, Table 6.6).
 const SOURCE_CAPABILITIES: u8 = 1;
 
-const ACCEPT: u8 = 3;
-
-const REJECT: u8 = 4;
-
-const PS_RDY: u8 = 6;
-
-const SOFT_RESET: u8 = 13;
-
-const NOT_SUPPORTED: u8 = 16;
+// The control messages that we send, by their types (000, Table 6.5).
+#[derive(Clone, Copy)]
+pub(crate) enum Control {
+    Accept = 3,
+    Reject = 4,
+    PsRdy = 6,
+    SoftReset = 13,
+    NotSupported = 16,
+}
 
 // One offer more, at most fifty.
 fn one_offer(count: u8) -> u8
@@ -75,10 +77,10 @@ impl Port {
     }
 
     // A control message goes out from a state.
-    fn tells(self, s: State, message_type: u8) -> Entered
-        ensures { result ≡ tells message_type (to s self) }
+    fn tells(self, s: State, control: Control) -> Entered
+        ensures { result ≡ tells (type_of control) (to s self) }
     {
-        let m = outgoing::control(message_type, self.channel.counter);
+        let m = outgoing::control(control as u8, self.channel.counter);
         self.to(s).transmits(m)
     }
 
@@ -154,7 +156,7 @@ impl Port {
     fn softens(self) -> Entered
         ensures { result ≡ enter Way.Soft nothing_asked self }
     {
-        self.unchannelled().tells(State::Soft, SOFT_RESET)
+        self.unchannelled().tells(State::Soft, Control::SoftReset)
     }
 
     // Where the rules lead.
@@ -172,15 +174,15 @@ impl Port {
                 .starts(Some(Timer::SourceCapability)),
             Way::Disabled => self.to(State::Disabled).starts(None),
             Way::Judge => self.judges(a).to(State::Judge).starts(None),
-            Way::Accepting => self.tells(State::Accepting, ACCEPT),
+            Way::Accepting => self.tells(State::Accepting, Control::Accept),
             Way::Moving => self.moves(),
-            Way::Telling => self.tells(State::Telling, PS_RDY),
+            Way::Telling => self.tells(State::Telling, Control::PsRdy),
             Way::Ready => self.to(State::Ready).starts(None),
-            Way::Declining => self.tells(State::Declining, NOT_SUPPORTED),
-            Way::Refusing => self.tells(State::Refusing, REJECT),
+            Way::Declining => self.tells(State::Declining, Control::NotSupported),
+            Way::Refusing => self.tells(State::Refusing, Control::Reject),
             Way::Waiting => self.to(State::Waiting).starts(None),
             Way::Soft => self.softens(),
-            Way::Answering => self.tells(State::Answering, ACCEPT),
+            Way::Answering => self.tells(State::Answering, Control::Accept),
             Way::Hard => self.hardened(true),
             Way::HardHeard => self.hardened(false),
             Way::Default => self.to(State::Default).supplies(Some(Supply::Default)),

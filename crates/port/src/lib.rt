@@ -148,7 +148,7 @@ impl Port {
             Ok(m) => {
                 let request = packets::first_object(reading::objects(s));
                 let fit = offers::judge(m.objects, request, self.last);
-                self.message(m.objects, m.fields, fit)
+                self.message(m, fit)
             }
             Err(no) => self.refused(no),
         }

@@ -2,16 +2,16 @@
 ghost use Rattle.std.specs.Prelude.{◌≡◌, drop};
 ghost use Rattle.port.specs.Packets.{first_object, meaning_in, requested, replied, heard_as, asked_by, is_soft_reset, crc_for, hearing, new_packet, other_packet, good_crc_heard, by_meaning, message_of};
 
+use crate::entering::Control;
 use crate::{Answer, Port};
 use ground::Refusal;
 use meaning::Meaning;
 use message::Fields;
 use offers::Asked;
 use power::{Change, NOTHING_ASKED};
+use reading::Message;
 use sending::HeaderBytes;
 use source::Heard;
-
-const ACCEPT: u8 = 3;
 
 // What follows the first two bytes.
 fn behind_two(o: &[u8]) -> &[u8]
@@ -31,11 +31,11 @@ pub fn first_object(o: &[u8]) -> u32
 }
 
 #[tactic(auto, unfolding(crate::specs::Packets::meaning_in))]
-pub fn meaning_in(objects: u8, f: Fields) -> Meaning
-    ensures { result ≡ meaning_in objects f }
+pub fn meaning_in(m: Message) -> Meaning
+    ensures { result ≡ meaning_in m.objects m.fields }
 {
-    let k = meaning::kind_of(f.extended, objects);
-    meaning::meaning_of(k, f.message_type)
+    let k = meaning::kind_of(m.fields.extended, m.objects);
+    meaning::meaning_of(k, m.fields.message_type)
 }
 
 fn requested(fit: Option<Asked>) -> Heard
@@ -50,7 +50,7 @@ fn requested(fit: Option<Asked>) -> Heard
 fn replied(message_type: u8) -> Heard
     ensures { result ≡ replied message_type }
 {
-    if message_type == ACCEPT {
+    if message_type == Control::Accept as u8 {
         Heard::Accept
     } else {
         Heard::OtherReply
@@ -154,11 +154,11 @@ impl Port {
 
     // A packet that was read.
     #[tactic(auto, unfolding(crate::specs::Packets::message_of))]
-    pub(crate) fn message(self, objects: u8, f: Fields, fit: Option<Asked>) -> Answer
-        ensures { result ≡ message_of self objects f fit }
+    pub(crate) fn message(self, m: Message, fit: Option<Asked>) -> Answer
+        ensures { result ≡ message_of self m.objects m.fields fit }
     {
         if source::listens(self.state) {
-            self.by_meaning(meaning_in(objects, f), f, fit)
+            self.by_meaning(meaning_in(m), m.fields, fit)
         } else {
             self.refused(Refusal::NotAwaited)
         }

@@ -18,11 +18,11 @@ pub fn our_fields(message_type: u8, message_id: u8) -> Fields
 {
     Fields {
         extended: false,
-        message_id: message_id,
+        message_id,
         power_role: 1,
         revision: 2,
         data_role: 1,
-        message_type: message_type,
+        message_type,
     }
 }
 
@@ -44,7 +44,10 @@ fn good_crc_revision(revision: u8) -> u8
 pub fn good_crc(f: Fields) -> HeaderBytes
     ensures { result ≡ bytes_of (good_crc_packet f) [] }
 {
-    let mut g = our_fields(message::GOOD_CRC, f.message_id);
-    g.revision = good_crc_revision(f.revision);
-    header_bytes(g, 0)
+    let ours = our_fields(message::GOOD_CRC, f.message_id);
+    let answer = Fields {
+        revision: good_crc_revision(f.revision),
+        ..ours
+    };
+    header_bytes(answer, 0)
 }
