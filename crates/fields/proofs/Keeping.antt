@@ -7,6 +7,7 @@ use mathlib.Core.Bool.{true, false}
 use mathlib.Core.List.{List, [], ◌++◌}
 use lib.ListN.{length, take, drop, get_or, set, length-drop}
 use lib.Seq.{paste, paste-suc, length-paste, length-take-le, get_or-append-add, get_or-drop}
+use Rattle.std.specs.Prelude.{Some, None}
 use Rattle.fields.specs.declared.Ending.{Ending}
 use Rattle.fields.specs.Endings.{ending_of}
 use Rattle.fields.specs.Keeping.{kept_count, part_in, at_front, Kept, goes_on, CarriedOver}
@@ -80,8 +81,8 @@ module _ (l : List ℕ) (at end last : ℕ) (e : last ≡ min end (length l)) wh
 
 -- ---- what is left of a piece
 module _ (l : List ℕ) (at end : ℕ) (e : Ending) (is : e ≡ ending_of (part_in l at end)) where
-  pub carried : goes_on e ≡ true → (n : ℕ) (l' : List ℕ) → Kept l at end n l' → CarriedOver l at end (record { ending = e; more = true; kept = n }) l'
+  pub carried : goes_on e ≡ true → (n : ℕ) (l' : List ℕ) → Kept l at end n l' → CarriedOver l at end (record { ending = e; kept = Some n }) l'
   carried g n l' k = record { answer = rw (← is, g, ← k.count) refl; bytes = rw (← is, g) k.bytes }
 
-  pub ended : goes_on e ≡ false → CarriedOver l at end (record { ending = e; more = false; kept = 0 }) l
+  pub ended : goes_on e ≡ false → CarriedOver l at end (record { ending = e; kept = None }) l
   ended g = record { answer = rw (← is, g) refl; bytes = rw (← is, g) refl }

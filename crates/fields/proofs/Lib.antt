@@ -1,4 +1,3 @@
-pub mod Answers
 pub mod Keeping
 pub mod Through
 pub mod PortAlone
