@@ -2,15 +2,11 @@
 use Prim.Native.Nat.{ℕ, suc, ◌+◌, ◌-◌, ◌<◌, ◌≤◌, min}
 use native.Mathlib.Omega.{arith}
 use native.Mathlib.Nat.{zero-add}
-use mathlib.Core.Path.{◌≡◌, refl, sym, ap, ◌∙◌}
-use mathlib.Core.Bool.{true, false}
+use mathlib.Core.Path.{◌≡◌, sym, ap, ◌∙◌}
 use mathlib.Core.List.{List, [], ◌++◌}
 use lib.ListN.{length, take, drop, get_or, set, length-drop}
 use lib.Seq.{paste, paste-suc, length-paste, length-take-le, get_or-append-add, get_or-drop}
-use Rattle.std.specs.Prelude.{Some, None}
-use Rattle.fields.specs.declared.Ending.{Ending}
-use Rattle.fields.specs.Endings.{ending_of}
-use Rattle.fields.specs.Keeping.{kept_count, part_in, at_front, Kept, goes_on, CarriedOver}
+use Rattle.fields.specs.Keeping.{kept_count, part_in, at_front, Kept}
 
 pub record Moved (l : List ℕ) (at end : ℕ) (buf : List ℕ) (from i : ℕ) : Type 0 where
   pub from_is : from ≡ at + i
@@ -78,11 +74,3 @@ module _ (l : List ℕ) (at end last : ℕ) (e : last ≡ min end (length l)) wh
   no_part h =
       let count : 0 ≡ kept_count l at end = omega (arith, e, h) in
       ap (λ (k : ℕ). take k (drop at l)) count
-
--- ---- what is left of a piece
-module _ (l : List ℕ) (at end : ℕ) (e : Ending) (is : e ≡ ending_of (part_in l at end)) where
-  pub carried : goes_on e ≡ true → (n : ℕ) (l' : List ℕ) → Kept l at end n l' → CarriedOver l at end (record { ending = e; kept = Some n }) l'
-  carried g n l' k = record { answer = rw (← is, g, ← k.count) refl; bytes = rw (← is, g) k.bytes }
-
-  pub ended : goes_on e ≡ false → CarriedOver l at end (record { ending = e; kept = None }) l
-  ended g = record { answer = rw (← is, g) refl; bytes = rw (← is, g) refl }
