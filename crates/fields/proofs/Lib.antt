@@ -1,4 +1,3 @@
-pub mod Keeping
 pub mod Through
 pub mod PortAlone
 pub mod NothingLoose

@@ -3,7 +3,7 @@
 // `rack` and `setup`, and rests on those.
 #![tactic(auto)]
 
-ghost use Rattle.std.specs.Prelude.{◌≡◌, min};
+ghost use Rattle.std.specs.Prelude.{◌≡◌};
 ghost use Rattle.fields.specs.Answers.{event_field, started_field, set_up_field, field_of};
 ghost use Rattle.fields.specs.Endings.{ending_by, ending_of};
 ghost use Rattle.fields.specs.Keeping.{part_in, Kept, goes_on, CarriedOver};
@@ -130,34 +130,18 @@ fn ending_of(s: &[u8]) -> Ending
 fn keep(buf: &mut [u8], at: usize, end: usize) -> usize
     ensures { Kept buf.old at end result buf.new }
 {
-    let mut from = at;
-    let mut i: usize = 0;
-    while from < end {
-        if buf.len() <= from {
-            return i;
-        }
-        buf[i] = buf[from];
-        i += 1;
-        from += 1;
-    }
-    i
-}
-
-fn least(a: usize, b: usize) -> usize
-    ensures { result ≡ min a b }
-{
-    if a < b { a } else { b }
+    let last = end.min(buf.len());
+    let from = at.min(last);
+    buf.copy_within(from..last, 0);
+    last - from
 }
 
 // The bytes from one place to another, as far as there are any.
 fn part(s: &[u8], at: usize, end: usize) -> &[u8]
     ensures { result.now ≡ part_in s.now at end }
 {
-    let last = least(end, s.len());
-    if at <= last {
-        return &s[at..last];
-    }
-    &s[..0]
+    let last = end.min(s.len());
+    &s[at.min(last)..last]
 }
 
 // Whether the next piece may make up for what stands there.

@@ -54,5 +54,5 @@ pub fn refuse_if(test: bool, r: Refusal) -> Verdict
 pub fn larger(a: u32, b: u32) -> u32
     ensures { result ≡ max a b }
 {
-    if a < b { b } else { a }
+    a.max(b)
 }

@@ -147,8 +147,7 @@ pub fn behind(s: &[u8]) -> &[u8]
 fn object_count(bytes: usize) -> u8
     ensures { result ≡ min (bytes / 4) 255 }
 {
-    let n = bytes / 4;
-    if n < 255 { n as u8 } else { 255 }
+    (bytes / 4).min(255) as u8
 }
 
 // Some bytes as an offer, four to an object.
@@ -156,6 +155,7 @@ fn object_count(bytes: usize) -> u8
 pub(crate) fn offer_in(o: &[u8]) -> Offer
     ensures { result ≡ offer_in o.now }
 {
+    // By `std::array::from_fn` its proof did not close: nothing says that the closure's `o` stays the same.
     let objects = [
         number(o, 0),
         number(o, 4),
@@ -166,7 +166,7 @@ pub(crate) fn offer_in(o: &[u8]) -> Offer
         number(o, 24),
     ];
     Offer {
-        objects: objects,
+        objects,
         count: object_count(o.len()),
     }
 }

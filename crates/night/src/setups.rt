@@ -69,7 +69,7 @@ fn is_supply(s: &[u8]) -> bool
 fn counted(count: u8) -> u8
     ensures { result ≡ min (count + 1) 255 }
 {
-    if count < 255 { count + 1 } else { 255 }
+    count.saturating_add(1)
 }
 
 // A set-up with one port more. One past the most is counted, and has no place.
@@ -108,9 +108,7 @@ pub(crate) fn group_in(s: &[u8]) -> Option<SetUp>
     let mut u = no_set_up();
     let mut at: usize = 0;
     // There are at most as many groups as bytes, which is why it ends.
-    let mut left = s.len();
-    while 0 < left {
-        left -= 1;
+    for _ in 0..s.len() {
         let f = crate::from(s, at);
         if is_supply(f) {
             return Some(SetUp {

@@ -5,9 +5,10 @@ use native.Mathlib.Numerals.{add-one}
 use native.Mathlib.Omega.{arith}
 use mathlib.Core.Path.{◌≡◌, refl, sym, ap}
 use mathlib.Core.Bool.{Bool, true, false, ◌&&◌}
-use mathlib.Core.List.{List, [], ◌∷◌}
+use mathlib.Core.List.{List, ◌∷◌}
 use lib.Dec.{lit<, ltb}
-use lib.ListN.{length, take, drop, get_or, get_or-eq_default}
+use lib.ListN.{length, drop, get_or, get_or-eq_default, drop_of_length-le}
+use lib.Seq.{drop-cons}
 use Rattle.offers.specs.Objects.{voltage_of, current_of, operating_of}
 use Rattle.offers.specs.Offers.{good_object, good_from}
 
@@ -24,43 +25,22 @@ operating< x = omega arith
 pub product : (a b : ℕ) → a < 1024 → b < 1024 → a * b < 2 ^ 32
 product a b h k = lt_trans (lt_of_le_of_lt (mul-le-mul_left a (le_of_lt k)) (mul-lt-mul_of_pos_right h (lit< tt))) (lit< tt)
 
--- ---- the first n of a list, from the i-th on: the i-th, and those after it
-next_suc : (l : List ℕ) (n i : ℕ) → i < n → n ≤ length l → drop i (take n l) ≡ get_or l i 0 ∷ drop (suc i) (take n l)
-next_suc [] n i h k = absurd (not-suc-le-zero (under h k))
-  where
-    under : i < n → n ≤ 0 → i < 0
-    under a b = omega arith
-next_suc (x ∷ l) zero i h k = absurd (not-suc-le-zero h)
-next_suc (x ∷ l) (suc n) zero h k = refl
-next_suc (x ∷ l) (suc n) (suc i) h k = next_suc l n i (le_of_suc-le-suc h) (le_of_suc-le-suc k)
-
-next : (l : List ℕ) (n i : ℕ) → i < n → n ≤ length l → drop i (take n l) ≡ get_or l i 0 ∷ drop (i + 1) (take n l)
-next l n i h k = rw (add-one i) (next_suc l n i h k)
-
-done : (l : List ℕ) (n i : ℕ) → n ≤ i → drop i (take n l) ≡ []
-done l zero zero h = refl
-done [] zero (suc i) h = refl
-done (x ∷ l) zero (suc i) h = refl
-done l (suc n) zero h = absurd (not-suc-le-zero h)
-done [] (suc n) (suc i) h = refl
-done (x ∷ l) (suc n) (suc i) h = done l n i (le_of_suc-le-suc h)
-
 -- ---- what is left of an offer decides
-module _ (limit before : ℕ) (l : List ℕ) (n i : ℕ) where
+module _ (limit before : ℕ) (l : List ℕ) (i : ℕ) where
   abbrev passes : Bool
   passes = good_object limit (get_or l i 0) && ltb before (voltage_of (get_or l i 0))
 
-  pub go_on : i < n → n ≤ length l → passes ≡ true → good_from limit before (drop i (take n l)) ≡ good_from limit (voltage_of (get_or l i 0)) (drop (i + 1) (take n l))
+  pub go_on : i < length l → passes ≡ true → good_from limit before (drop i l) ≡ good_from limit (voltage_of (get_or l i 0)) (drop (i + 1) l)
   unfolding good_from
-  go_on h k e = rw (next l n i h k, e) refl
+  go_on h e = rw (add-one i, drop-cons l i 0 h, e) refl
 
-  pub stop : i < n → n ≤ length l → passes ≡ false → good_from limit before (drop i (take n l)) ≡ false
+  pub stop : i < length l → passes ≡ false → good_from limit before (drop i l) ≡ false
   unfolding good_from
-  stop h k e = rw (next l n i h k, e) refl
+  stop h e = rw (drop-cons l i 0 h, e) refl
 
-  pub all_done : n ≤ i → good_from limit before (drop i (take n l)) ≡ true
+  pub all_done : length l ≤ i → good_from limit before (drop i l) ≡ true
   unfolding good_from
-  all_done h = rw (done l n i h) refl
+  all_done h = rw (drop_of_length-le l h) refl
 
 -- ---- positions are counted from 1
 pub before_first : (l : List ℕ) (p : ℕ) → p < 1 → 0 ≡ get_or (0 ∷ l) p 0

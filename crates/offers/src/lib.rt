@@ -78,18 +78,14 @@ fn has_object(o: Offer, position: u8) -> bool
 }
 
 // The object at a position, counted from 1; zero where no object can be.
-#[tactic(auto, unfolding(crate::specs::Offers::object_at))]
+#[tactic(auto, using(crate::proofs::Laws::before_first, crate::proofs::Laws::past_last, crate::proofs::Laws::at_position), unfolding(crate::specs::Offers::object_at))]
 fn object_at(o: Offer, position: u8) -> u32
     ensures { result ≡ object_at o position }
 {
-    let objects = o.objects;
-    if position < 1 {
-        return 0;
+    match position {
+        1..=7 => o.objects[(position - 1) as usize],
+        _ => 0,
     }
-    if 7 < position {
-        return 0;
-    }
-    objects[(position - 1) as usize]
 }
 
 // Whether an object may stand in an offer of a port with this limit.
@@ -103,22 +99,18 @@ fn good_object(limit: u32, x: u32) -> bool
     (x / 1073741824 % 4 == 0) & (v <= 400) & (c <= 500) & (w <= limit)
 }
 
-// Whether the first objects are good, each of a higher voltage than the one before it.
-fn good_objects(limit: u32, objects: [u32; 7], n: usize) -> bool
-    requires { n ≤ 7 }
-    ensures { result ≡ good_from limit 0 (take n objects) }
+// Whether these objects are good, each of a higher voltage than the one before it.
+#[tactic(auto, using(crate::proofs::Laws::go_on, crate::proofs::Laws::stop, crate::proofs::Laws::all_done))]
+fn good_objects(limit: u32, objects: &[u32]) -> bool
+    ensures { result ≡ good_from limit 0 objects.now }
 {
     let mut before: u32 = 0;
-    let mut i: usize = 0;
-    while i < n {
-        let x = objects[i];
+    for &x in objects {
         let v = voltage(x);
-        if good_object(limit, x) & (before < v) {
-            before = v;
-            i += 1;
-        } else {
+        if !(good_object(limit, x) && before < v) {
             return false;
         }
+        before = v;
     }
     true
 }
@@ -128,19 +120,9 @@ fn good_objects(limit: u32, objects: [u32; 7], n: usize) -> bool
 pub fn good(limit: u32, o: Offer) -> bool
     ensures { result ≡ good_offer limit o }
 {
-    let objects = o.objects;
     let n = o.count as usize;
     let first = voltage(object_at(o, 1)) == 100;
-    if n < 1 {
-        return false;
-    }
-    if 7 < n {
-        return false;
-    }
-    if first {
-        return good_objects(limit, objects, n);
-    }
-    false
+    (1..=7).contains(&n) && first && good_objects(limit, &o.objects[..n])
 }
 
 // Whether a Request of this many objects fits an offer. With capability mismatch set its maximum may

@@ -75,6 +75,7 @@ fn heard(h: Heard, p: Port, m: Met) -> Plan
     }
 }
 
+#[tactic(auto, unfolding(crate::specs::Plans::plan_of))]
 pub(crate) fn decided(p: Port, m: Met) -> Plan
     ensures { result ≡ plan_of p m }
 {
@@ -103,6 +104,7 @@ fn answered(x: Plan, yes: bool) -> Plan
 }
 
 // With the power answer, where it is asked for.
+#[tactic(auto, unfolding(crate::specs::Plans::settled_plan))]
 pub(crate) fn settled(t: Slot, x: Plan, others: u64, supply: u32) -> Plan
     ensures { result ≡ settled_plan t others supply x }
 {

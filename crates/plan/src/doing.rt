@@ -96,6 +96,7 @@ fn resends(x: Prior, m: Packet, a: Answer) -> Answer
     }
 }
 
+#[tactic(auto, unfolding(crate::specs::Plans::performed))]
 fn performed(p: Port, o: Offer, x: Plan) -> Answer
     ensures { result ≡ performed p o x }
 {

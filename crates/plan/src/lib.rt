@@ -84,6 +84,7 @@ pub fn new_offer(limit: u32, o: Offer) -> Met
 
 // The answer of a port beside others that take so much of the supply. `o` is the new offer, where one has
 // come.
+#[tactic(auto, unfolding(crate::specs::Plans::done_of))]
 pub fn done(t: Slot, o: Offer, m: Met, others: u64, supply: u32) -> Answer
     ensures { result ≡ done_of t o m others supply }
 {

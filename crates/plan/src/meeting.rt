@@ -50,6 +50,7 @@ fn outcome(o: Outcome, none: Cue) -> Met
     }
 }
 
+#[tactic(auto, unfolding(crate::specs::Plans::met_event))]
 pub(crate) fn event(c: Channel, e: Event) -> Met
     ensures { result ≡ met_event c e }
 {
@@ -97,6 +98,7 @@ fn is_good_crc(m: Meaning) -> bool
 }
 
 // By what a packet means; whether a Request fits is asked only of a new packet.
+#[tactic(auto, unfolding(crate::specs::Plans::met_meaning))]
 fn by_meaning(m: Meaning, p: Port, f: Fields, objects: u8, request: u32) -> Met
     ensures { result ≡ met_meaning m p f (fit_of objects request p.last) }
 {
@@ -109,6 +111,7 @@ fn by_meaning(m: Meaning, p: Port, f: Fields, objects: u8, request: u32) -> Met
     new_packet(f, m, offers::judge(objects, request, p.last))
 }
 
+#[tactic(auto, unfolding(crate::specs::Plans::met_message))]
 fn message(p: Port, objects: u8, f: Fields, request: u32) -> Met
     ensures { result ≡ met_message p objects f (fit_of objects request p.last) }
 {
@@ -119,6 +122,7 @@ fn message(p: Port, objects: u8, f: Fields, request: u32) -> Met
     }
 }
 
+#[tactic(auto, unfolding(crate::specs::Plans::met_packet))]
 pub(crate) fn packet(p: Port, s: &[u8]) -> Met
     ensures { result ≡ met_packet p s.now }
 {
@@ -131,6 +135,7 @@ pub(crate) fn packet(p: Port, s: &[u8]) -> Met
     }
 }
 
+#[tactic(auto, unfolding(crate::specs::Plans::met_offer))]
 pub(crate) fn new_offer(limit: u32, o: Offer) -> Met
     ensures { result ≡ met_offer limit o }
 {

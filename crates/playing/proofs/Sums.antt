@@ -2,7 +2,7 @@
 use Prim.Native.Nat.{ℕ, zero, suc, ◌+◌, ◌-◌, ◌*◌, ◌<◌, ◌≤◌}
 use native.Mathlib.Omega.{arith}
 use native.Mathlib.Decide.{ℕ_discrete}
-use mathlib.Core.Path.{◌≡◌, refl, sym, ap}
+use mathlib.Core.Path.{◌≡◌, sym, ap}
 use mathlib.Core.List.{List}
 use lib.ListN.{length, set}
 use lib.Seq.{get_or-set_same, get_or-set_other}
@@ -10,7 +10,7 @@ use Rattle.slot.specs.declared.Slot.{Slot}
 use Rattle.slot.specs.Load.{load_of}
 use Rattle.rack.specs.declared.Rack.{Rack}
 use Rattle.rack.specs.Ports.{most_ports, nobody, at, ports_in, total, loads}
-use Rattle.rack.proofs.Totals.{total_more, total_part, total_change}
+use Rattle.rack.proofs.Totals.{total_part, total_change}
 use Rattle.playing.specs.Meeting.{Small}
 
 -- what the loop holds, as a rack
@@ -54,15 +54,3 @@ module _ (slots : List Slot) (count supply i : ℕ) (u : Slot) (inside : i < len
       let b : load_of (at q i) ≡ load_of u = ap load_of same_there in
       let c : load_of (at r i) ≤ total (λ k. load_of (at r k)) (ports_in r) = total_part (λ k. load_of (at r k)) (ports_in r) i h in
       omega (arith, a, b, c, e)
-
--- ---- summing up at the start
-module _ (r : Rack) (sum i : ℕ) (passed : sum ≡ total (λ k. load_of (at r k)) i) (small : (k : ℕ) → k < i → load_of (at r k) < 4294967296) where
-  pub more : (load : ℕ) → load ≡ load_of (at r i) → sum + load ≡ total (λ k. load_of (at r k)) (i + 1)
-  more load e = rw (total_more (λ k. load_of (at r k)) i, e, passed) refl
-
-  pub small_more : (load : ℕ) → load ≡ load_of (at r i) → load < 4294967296 → (k : ℕ) → k < i + 1 → load_of (at r k) < 4294967296
-  small_more load e h k l =
-      elim (ℕ_discrete k i) [
-        | yes q ↦ rw (q, ← e) h
-        | no d ↦ small k (omega (arith, d))
-      ]

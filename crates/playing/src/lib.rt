@@ -56,11 +56,11 @@ fn answered(t: Tally, number: u8, was: State, a: Answer) -> Sums
 fn ports(count: u8) -> usize
     ensures { result ≡ min count most_ports }
 {
-    let n = count as usize;
-    if n < PORTS { n } else { PORTS }
+    (count as usize).min(PORTS)
 }
 
-// Whether a rack of this count has a port of this number.
+// Whether a rack of this count has a port of this number. `Rack::has` takes a whole rack, and the loop holds
+// its parts: a call would copy all slots at each event.
 fn is_in(count: u8, number: u8) -> bool
     ensures { result ≡ (leb 1 number && leb number (min count most_ports)) }
 {
@@ -68,17 +68,14 @@ fn is_in(count: u8, number: u8) -> bool
     (1 <= number) & (number as usize <= n)
 }
 
-// What all ports take of the supply; and no port takes more than a number of its size can say.
+// What all ports take of the supply; and no port takes more than a number of its size can say, of which the
+// contract of `Rack::load` says nothing.
 fn summed(r: Rack) -> u64
     ensures { (result ≡ loads r) × Small r }
 {
-    let n = ports(r.count);
     let mut total: u64 = 0;
-    let mut i: usize = 0;
-    while i < n {
-        let s = r.slots[i];
+    for s in &r.slots[..ports(r.count)] {
         total += s.load() as u64;
-        i += 1;
     }
     total
 }
@@ -116,9 +113,8 @@ pub fn night(r: Rack, t: Tally, s: &[u8]) -> Played
     let mut total = summed(r);
     let mut tally = t;
     let mut at: usize = 0;
-    let mut left = s.len();
-    while 0 < left {
-        left -= 1;
+    // There are at most as many fields as bytes.
+    for _ in 0..s.len() {
         let f = &s[at..];
         let found = night::next(f);
         if turns::is_event(found) {
@@ -131,16 +127,11 @@ pub fn night(r: Rack, t: Tally, s: &[u8]) -> Played
                 let was = t.load();
                 let a = turns::stepped(t, found, f, total - was as u64, supply);
                 let q = laying::port(a.port);
-                let u = Slot {
-                    port: q,
-                    share: t.share,
-                    limit: t.limit,
-                };
+                let u = Slot { port: q, ..t };
                 slots[i] = u;
                 total = moved(total, was, u.load());
                 let sums = answered(tally, number, state, a);
-                let verdict = a.verdict;
-                let k = tally::verdict_number(verdict) as usize;
+                let k = tally::verdict_number(a.verdict) as usize;
                 tally.verdicts[k] = tally::one_more(tally.verdicts[k]);
                 tally.accepts = sums.accepts;
                 tally.rejects = sums.rejects;
@@ -152,20 +143,24 @@ pub fn night(r: Rack, t: Tally, s: &[u8]) -> Played
             continue;
         }
         if turns::is_set_up(found) {
-            if let Some(u) = night::set_up(f) {
-                at += night::size(f);
-                let started = setup::set_up(u);
-                tally = tally.set_up_told(verdict(&started));
-                if let Ok(rack) = started {
+            let Some(u) = night::set_up(f) else {
+                return held(slots, count, supply, tally, at);
+            };
+            at += night::size(f);
+            match setup::set_up(u) {
+                Ok(rack) => {
+                    tally = tally.set_up_told(Ok(()));
                     slots = rack.slots;
                     count = rack.count;
                     supply = rack.supply;
                     total = summed(rack);
                     continue;
                 }
-                continue;
+                Err(no) => {
+                    tally = tally.set_up_told(Err(no));
+                    continue;
+                }
             }
-            return held(slots, count, supply, tally, at);
         }
         return held(slots, count, supply, tally, at);
     }

@@ -9,7 +9,7 @@ use lib.Dec.{T, eqb}
 use Rattle.message.specs.declared.Fields.{Fields}
 use Rattle.message.specs.Types as Types
 use Rattle.meaning.specs.declared.Meaning.{Meaning}
-use Rattle.reading.specs.Reading.{read_of, part_of}
+use Rattle.reading.specs.Reading.{read_of, part_of, message_with}
 use Rattle.offers.specs.declared.Asked.{Asked}
 use Rattle.offers.specs.declared.Offer.{Offer}
 use Rattle.offers.specs.Requests.{fits, asked, judged, fit_of}
@@ -28,7 +28,6 @@ use Rattle.stimuli.specs.Leads.{leads}
 use Rattle.hearing.specs.Packets.{same_heard, on_packet}
 use Rattle.source.specs.Changes.{change_of}
 use Rattle.source.proofs.Finite.{everywhere, at_packets}
-use Rattle.port.specs.declared.Supply.{Supply}
 use Rattle.port.specs.declared.Port.{Port}
 use Rattle.port.specs.declared.Answer.{Answer}
 use Rattle.port.specs.declared.Event.{Event}
@@ -44,8 +43,8 @@ use Rattle.portclaims.proofs.Truth.{true_not_false, then, and, first, second, no
 use Rattle.portclaims.proofs.Led.{turn_state, led_state, at_way, is_same}
 use Rattle.portclaims.proofs.Ways as Ways
 use Rattle.portclaims.proofs.Tables as Tables
-use Rattle.portclaims.proofs.Shapes.{Rule, by_attach, by_detach, by_hard_reset, by_acknowledgement, by_failure, by_sender_response, by_source_capability, by_ps_hard_reset, by_supply_ready, by_yes, by_no, by_offer_lem, New, fit_in, Shape, refused, idle, again, led, heard, shape}
-use Rattle.reading.specs.Reading.{message_with}
+use Rattle.portclaims.proofs.Shapes.{Rule, by_yes, New, fit_in, Shape, refused, idle, again, led, heard, shape}
+use Rattle.reading.proofs.ReadsExactlyMessages.{same_message}
 use Rattle.std.specs.Prelude.{Some, None, Option}
 
 -- the bytes s are a new Request to port p that comes awaited or in Ready and fits the last offer put on the wire
@@ -60,39 +59,11 @@ pub record FittingRequest (p : Port) (s : List ℕ) : Type 0 where
 to_judge : (s : State) → awaits_request s ≡ true → on_packet s Heard.FittingRequest ≡ Some Way.Judge
 unfolding on_packet
 to_judge State.Offer e = refl
-to_judge State.Discovery e = refl
-to_judge State.Ready e = refl
-to_judge State.Detached e = true_not_false (sym e)
-to_judge State.Disabled e = true_not_false (sym e)
-to_judge State.Judge e = true_not_false (sym e)
-to_judge State.Accepting e = true_not_false (sym e)
-to_judge State.Moving e = true_not_false (sym e)
-to_judge State.Telling e = true_not_false (sym e)
-to_judge State.Declining e = true_not_false (sym e)
-to_judge State.Refusing e = true_not_false (sym e)
-to_judge State.Waiting e = true_not_false (sym e)
-to_judge State.Soft e = true_not_false (sym e)
-to_judge State.Answering e = true_not_false (sym e)
-to_judge State.Hard e = true_not_false (sym e)
-to_judge State.Default e = true_not_false (sym e)
+to_judge s e = cc
 
 listens_then : (s : State) → awaits_request s ≡ true → listens s ≡ true
 listens_then State.Offer e = refl
-listens_then State.Discovery e = refl
-listens_then State.Ready e = refl
-listens_then State.Detached e = true_not_false (sym e)
-listens_then State.Disabled e = true_not_false (sym e)
-listens_then State.Judge e = refl
-listens_then State.Accepting e = refl
-listens_then State.Moving e = refl
-listens_then State.Telling e = refl
-listens_then State.Declining e = refl
-listens_then State.Refusing e = refl
-listens_then State.Waiting e = refl
-listens_then State.Soft e = refl
-listens_then State.Answering e = refl
-listens_then State.Hard e = true_not_false (sym e)
-listens_then State.Default e = true_not_false (sym e)
+listens_then s e = cc
 
 -- the same, part by part
 module _ (p : Port) (s : List ℕ) (n : ℕ) (f : Fields) (read : read_of s ≡ message_with n f) (request : meaning_in n f ≡ Meaning.Request) where
@@ -106,9 +77,6 @@ module _ (p : Port) (s : List ℕ) (n : ℕ) (f : Fields) (read : read_of s ≡ 
         awaited = awaited;
         fitting = fit;
       }
-
-same_message : (m n : ℕ) (f g : Fields) → message_with m f ≡ message_with n g → (m ≡ n) × (f ≡ g)
-same_message m n f g e = (cc, cc)
 
 no_repeat : (b : Bool) → (b && true) ≡ false → b ≡ false
 no_repeat true e = e
@@ -173,19 +141,15 @@ unfolding on_packet
 only_fitting_asks = at_packets (λ s h. ask_test s h (on_packet s h)) tt
 
 -- what is heard as a fitting Request is one
+no_reply_fits : (b : Bool) → is_fitting (cond b Heard.Accept Heard.OtherReply) ≡ false
+no_reply_fits true = refl
+no_reply_fits false = refl
+
 is_request_lem : (m : Meaning) (t : ℕ) (fit : Option Asked) → is_fitting (heard_as m t fit) ≡ true → m ≡ Meaning.Request
 unfolding heard_as
 is_request_lem Meaning.Request t fit e = refl
-is_request_lem Meaning.Unsupported t fit e = true_not_false (sym e)
-is_request_lem Meaning.GoodCrc t fit e = true_not_false (sym e)
-is_request_lem Meaning.GetSourceCap t fit e = true_not_false (sym e)
-is_request_lem Meaning.SoftReset t fit e = true_not_false (sym e)
-is_request_lem Meaning.Quiet t fit e = true_not_false (sym e)
-is_request_lem Meaning.Reply t fit e = by_type (eqb t Types.Accept) e
-  where
-    by_type : (b : Bool) → is_fitting (cond b Heard.Accept Heard.OtherReply) ≡ true → Meaning.Reply ≡ Meaning.Request
-    by_type true e = true_not_false (sym e)
-    by_type false e = true_not_false (sym e)
+is_request_lem Meaning.Reply t fit e = true_not_false (sym e ∙ no_reply_fits (eqb t Types.Accept))
+is_request_lem m t fit e = true_not_false (sym e)
 
 heard_request : (t : ℕ) (fit : Option Asked) → is_fitting (heard_as Meaning.Request t fit) ≡ true → is_fitting (requested fit) ≡ true
 unfolding heard_as
@@ -286,17 +250,7 @@ no_packet_accepts = at_packets (λ s h. packet_accept_test s (on_packet s h)) tt
 
 yes_call : (p : Port) (c : Call) (e : Stimulus) (q : Port) (t : Option Timer) → Rule p c e q t → is_yes e ≡ true → c ≡ event Event.Yes
 yes_call p c e q t by_yes h = refl
-yes_call p c e q t by_attach h = true_not_false (sym h)
-yes_call p c e q t by_detach h = true_not_false (sym h)
-yes_call p c e q t by_hard_reset h = true_not_false (sym h)
-yes_call p c e q t (by_acknowledgement d u on) h = true_not_false (sym h)
-yes_call p c e q t (by_failure d u on) h = true_not_false (sym h)
-yes_call p c e q t by_sender_response h = true_not_false (sym h)
-yes_call p c e q t by_source_capability h = true_not_false (sym h)
-yes_call p c e q t by_ps_hard_reset h = true_not_false (sym h)
-yes_call p c e q t by_supply_ready h = true_not_false (sym h)
-yes_call p c e q t by_no h = true_not_false (sym h)
-yes_call p c e q t (by_offer_lem limit o good) h = true_not_false (sym h)
+yes_call p c e q t rule h = true_not_false (sym h)
 
 module _ (p : Port) (elsewhere : same (state_of p) State.Accepting ≡ false) where
   remains : {A : Type 0} → state_of p ≡ State.Accepting → A

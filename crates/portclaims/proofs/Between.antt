@@ -35,7 +35,7 @@ use Rattle.portclaims.proofs.Ways as Ways
 use Rattle.portclaims.proofs.Channels.{numbered_fresh, numbered_ended, numbered_again, numbered_heard, numbered_enters}
 use Rattle.portclaims.proofs.Tables as Tables
 use Rattle.portclaims.proofs.Led.{change_state, change_channel}
-use Rattle.portclaims.proofs.Shapes.{Rule, by_attach, by_detach, by_hard_reset, by_acknowledgement, by_failure, by_sender_response, by_source_capability, by_ps_hard_reset, by_supply_ready, by_yes, by_no, by_offer_lem, fit_in, Shape, refused, idle, again as sent_again, led, heard as is-heard, shape}
+use Rattle.portclaims.proofs.Shapes.{Rule, by_attach, by_detach, by_acknowledgement, by_failure, by_offer_lem, fit_in, Shape, refused, idle, again as sent_again, led, heard as is-heard, shape}
 use Rattle.std.specs.Prelude.{Some, None, Option}
 
 -- ---- the parts of what is relied on that a way keeps or makes
@@ -45,58 +45,21 @@ Known p = (id : ℕ) → p.channel.stored ≡ Some id → p.connected ≡ true
 abbrev Shown : Port → Type 0
 Shown p = p.gone_out ≡ true → p.newest ≡ p.last
 
-abbrev is_none : Option ℕ → Bool
-is_none None = true
-is_none (Some id) = false
-
 none_stored : {A : Type 0} (id : ℕ) → None ≡ Some id → A
-none_stored id e = true_not_false (ap is_none e)
+none_stored id e = cc
 
 known_enters : (w : Way) (a : Asked) (p : Port) → Known p → Known (enter w a p).port
 unfolding enter sends
-known_enters Way.Stay a p k = k
 known_enters Way.Offered a p k = λ id e. refl
-known_enters Way.Softened a p k = k
-known_enters Way.Offer a p k = k
-known_enters Way.Discovery a p k = k
-known_enters Way.Disabled a p k = k
-known_enters Way.Judge a p k = k
-known_enters Way.Accepting a p k = k
-known_enters Way.Moving a p k = k
-known_enters Way.Telling a p k = k
-known_enters Way.Ready a p k = k
-known_enters Way.Declining a p k = k
-known_enters Way.Refusing a p k = k
-known_enters Way.Waiting a p k = k
 known_enters Way.Soft a p k = none_stored
-known_enters Way.Answering a p k = k
 known_enters Way.Hard a p k = none_stored
 known_enters Way.HardHeard a p k = none_stored
-known_enters Way.Default a p k = k
-known_enters Way.Detached a p k = k
+known_enters w a p k = k
 
 shown_enters : (w : Way) (a : Asked) (p : Port) → Shown p → Shown (enter w a p).port
 unfolding enter
-shown_enters Way.Stay a p k = k
-shown_enters Way.Offered a p k = k
-shown_enters Way.Softened a p k = k
 shown_enters Way.Offer a p k = λ e. refl
-shown_enters Way.Discovery a p k = k
-shown_enters Way.Disabled a p k = k
-shown_enters Way.Judge a p k = k
-shown_enters Way.Accepting a p k = k
-shown_enters Way.Moving a p k = k
-shown_enters Way.Telling a p k = k
-shown_enters Way.Ready a p k = k
-shown_enters Way.Declining a p k = k
-shown_enters Way.Refusing a p k = k
-shown_enters Way.Waiting a p k = k
-shown_enters Way.Soft a p k = k
-shown_enters Way.Answering a p k = k
-shown_enters Way.Hard a p k = k
-shown_enters Way.HardHeard a p k = k
-shown_enters Way.Default a p k = k
-shown_enters Way.Detached a p k = k
+shown_enters w a p k = k
 
 one_offer≤ : (n : ℕ) (b : Bool) → ltb n most_offers ≡ b → n ≤ most_offers → cond b (n + 1) most_offers ≤ most_offers
 one_offer≤ n true e h = omega (arith, below n most_offers e)
@@ -104,26 +67,9 @@ one_offer≤ n false e h = omega arith
 
 counted_enters : (w : Way) (a : Asked) (p : Port) → p.count ≤ most_offers → (enter w a p).port.count ≤ most_offers
 unfolding enter
-counted_enters Way.Stay a p h = h
 counted_enters Way.Offered a p h = omega arith
-counted_enters Way.Softened a p h = h
 counted_enters Way.Offer a p h = one_offer≤ p.count (ltb p.count most_offers) refl h
-counted_enters Way.Discovery a p h = h
-counted_enters Way.Disabled a p h = h
-counted_enters Way.Judge a p h = h
-counted_enters Way.Accepting a p h = h
-counted_enters Way.Moving a p h = h
-counted_enters Way.Telling a p h = h
-counted_enters Way.Ready a p h = h
-counted_enters Way.Declining a p h = h
-counted_enters Way.Refusing a p h = h
-counted_enters Way.Waiting a p h = h
-counted_enters Way.Soft a p h = h
-counted_enters Way.Answering a p h = h
-counted_enters Way.Hard a p h = h
-counted_enters Way.HardHeard a p h = h
-counted_enters Way.Default a p h = h
-counted_enters Way.Detached a p h = h
+counted_enters w a p h = h
 
 -- where a way leads to a state whose channel is as at attach, the channel is so
 reset_enters : (w : Way) (a : Asked) (p : Port) → (is_reset (state_of p) ≡ true → p.channel ≡ fresh) → (Tables.is_deaf_way w ≡ true → p.channel ≡ fresh) →
@@ -132,56 +78,32 @@ unfolding enter
 reset_enters Way.Stay a p k d h = k h
 reset_enters Way.Offered a p k d h = k h
 reset_enters Way.Softened a p k d h = k h
-reset_enters Way.Offer a p k d h = true_not_false (sym h)
-reset_enters Way.Discovery a p k d h = true_not_false (sym h)
-reset_enters Way.Disabled a p k d h = true_not_false (sym h)
-reset_enters Way.Judge a p k d h = true_not_false (sym h)
-reset_enters Way.Accepting a p k d h = true_not_false (sym h)
-reset_enters Way.Moving a p k d h = true_not_false (sym h)
-reset_enters Way.Telling a p k d h = true_not_false (sym h)
-reset_enters Way.Ready a p k d h = true_not_false (sym h)
-reset_enters Way.Declining a p k d h = true_not_false (sym h)
-reset_enters Way.Refusing a p k d h = true_not_false (sym h)
-reset_enters Way.Waiting a p k d h = true_not_false (sym h)
-reset_enters Way.Soft a p k d h = true_not_false (sym h)
-reset_enters Way.Answering a p k d h = true_not_false (sym h)
-reset_enters Way.Hard a p k d h = refl
-reset_enters Way.HardHeard a p k d h = refl
 reset_enters Way.Default a p k d h = d refl
 reset_enters Way.Detached a p k d h = d refl
+reset_enters w a p k d h = cc
 
 -- ---- what a change does
 module _ (p : Port) where
   change_gone_out : (c : Change) → (with_change c p).gone_out ≡ p.gone_out
   change_gone_out Change.Nothing = refl
-  change_gone_out Change.Accepted = refl
-  change_gone_out Change.InForce = refl
-  change_gone_out Change.GivenUp = refl
+  change_gone_out c = refl
 
   change_made : (c : Change) → is_made (with_change c p).power.contract ≡ Ways.made_after (is_made p.power.contract) c
   unfolding changed
   change_made Change.Nothing = refl
-  change_made Change.Accepted = refl
-  change_made Change.InForce = refl
-  change_made Change.GivenUp = refl
+  change_made c = refl
 
   change_shown : (c : Change) → Shown p → Shown (with_change c p)
   change_shown Change.Nothing k = k
-  change_shown Change.Accepted k = k
-  change_shown Change.InForce k = k
-  change_shown Change.GivenUp k = k
+  change_shown c k = k
 
   change_counted : (c : Change) → p.count ≤ most_offers → (with_change c p).count ≤ most_offers
-  change_counted Change.Nothing h = h
-  change_counted Change.Accepted h = h
-  change_counted Change.InForce h = h
   change_counted Change.GivenUp h = omega arith
+  change_counted c h = h
 
   change_known : (c : Change) → Known p → (Tables.is_given_up c ≡ true → p.channel ≡ fresh) → Known (with_change c p)
-  change_known Change.Nothing k f = k
-  change_known Change.Accepted k f = k
-  change_known Change.InForce k f = k
   change_known Change.GivenUp k f = λ id e. none_stored id (sym (ap (λ (c : Channel). c.stored) (f refl)) ∙ e)
+  change_known c k f = k
 
   change_holds : (c : Change) (before after : Bool) → T (Tables.by_change c before after) → (before ≡ false → p.power.held ≡ worth_in p.power.contract) → after ≡ false →
       (with_change c p).power.held ≡ worth_in (with_change c p).power.contract
@@ -215,9 +137,6 @@ module _ (p : Port) (k : Between p) where
     pub held : in_between (state_of q) ≡ false → q.power.held ≡ worth_in q.power.contract
     pub counted : q.count ≤ most_offers
     pub possible : Tables.possible e (pending_in p) ≡ true
-
-  abbrev same_port : (e : Stimulus) → Type 0
-  same_port e = Ruled e p
 
   ruled_cleared : (e : Stimulus) → Tables.ruled_state e (state_of p) ≡ State.Detached → Tables.ruled_pending e (pending_in p) ≡ false → Tables.ruled_gone_out e p.gone_out ≡ false →
       Tables.ruled_made e (is_made p.power.contract) ≡ false → Tables.possible e (pending_in p) ≡ true → Ruled e (cleared p)
@@ -262,15 +181,8 @@ module _ (p : Port) (k : Between p) where
   ruled : (c : Call) (e : Stimulus) (q : Port) (t : Option Timer) → Rule p c e q t → Ruled e q
   ruled c e q t by_attach = ruled_cleared Stimulus.Attach refl refl refl refl refl
   ruled c e q t by_detach = ruled_cleared Stimulus.Detach refl refl refl refl refl
-  ruled c e q t by_hard_reset = as_it_was Stimulus.HardReset refl refl refl refl refl
   ruled c e q t (by_acknowledgement d u on) = ruled_ending Stimulus.Acknowledged on refl refl refl refl on
   ruled c e q t (by_failure d u on) = ruled_ending Stimulus.Failed on refl refl refl refl on
-  ruled c e q t by_sender_response = as_it_was Stimulus.SenderResponse refl refl refl refl refl
-  ruled c e q t by_source_capability = as_it_was Stimulus.SourceCapability refl refl refl refl refl
-  ruled c e q t by_ps_hard_reset = as_it_was Stimulus.PsHardReset refl refl refl refl refl
-  ruled c e q t by_supply_ready = as_it_was Stimulus.SupplyReady refl refl refl refl refl
-  ruled c e q t by_yes = as_it_was Stimulus.Yes refl refl refl refl refl
-  ruled c e q t by_no = as_it_was Stimulus.No refl refl refl refl refl
   ruled c e q t (by_offer_lem limit o good) =
       record {
         state = refl;
@@ -285,6 +197,7 @@ module _ (p : Port) (k : Between p) where
         counted = k.counted;
         possible = refl;
       }
+  ruled c e q t rule = as_it_was e refl refl refl refl refl
 
   -- ---- led on by a stimulus
   module _ (e : Stimulus) (q : Port) (r : Ruled e q) (way : Way) (a : Asked) (l : leads (state_of p) e (facts_of p) ≡ Some way) where

@@ -52,23 +52,13 @@ module _ (c : Channel) (n : Numbered c) where
 
 pub numbered_enters : (w : Way) (a : Asked) (p : Port) → Numbered p.channel → Numbered (enter w a p).port.channel
 unfolding enter
-numbered_enters Way.Stay a p n = n
-numbered_enters Way.Offered a p n = n
-numbered_enters Way.Softened a p n = n
 numbered_enters Way.Offer a p n = numbered_offers p.channel n p.newest.objects p.newest.count
-numbered_enters Way.Discovery a p n = n
-numbered_enters Way.Disabled a p n = n
-numbered_enters Way.Judge a p n = n
 numbered_enters Way.Accepting a p n = numbered_tells p.channel n Types.Accept (lit< tt)
-numbered_enters Way.Moving a p n = n
 numbered_enters Way.Telling a p n = numbered_tells p.channel n Types.PsRdy (lit< tt)
-numbered_enters Way.Ready a p n = n
 numbered_enters Way.Declining a p n = numbered_tells p.channel n Types.NotSupported (lit< tt)
 numbered_enters Way.Refusing a p n = numbered_tells p.channel n Types.Reject (lit< tt)
-numbered_enters Way.Waiting a p n = n
 numbered_enters Way.Soft a p n = numbered_tells fresh numbered_fresh Types.SoftReset (lit< tt)
 numbered_enters Way.Answering a p n = numbered_tells p.channel n Types.Accept (lit< tt)
 numbered_enters Way.Hard a p n = numbered_fresh
 numbered_enters Way.HardHeard a p n = numbered_fresh
-numbered_enters Way.Default a p n = n
-numbered_enters Way.Detached a p n = n
+numbered_enters w a p n = n

@@ -33,9 +33,8 @@ use Rattle.portclaims.proofs.Ways as Ways
 use Rattle.portclaims.proofs.Tables as Tables
 use Rattle.portclaims.proofs.Led.{turn_state, led_state, at_way}
 use Rattle.portclaims.proofs.CountsOneOn.{starts_over, zeroed, same_counter, in_over, is_soft, soft_test, soft_table, soft_heard}
-use Rattle.portclaims.proofs.Shapes.{Rule, by_attach, by_detach, by_hard_reset, by_acknowledgement, by_failure, by_sender_response, by_source_capability, by_ps_hard_reset, by_supply_ready, by_yes, by_no, by_offer_lem, fit_in, Shape, refused, idle, again as sent_again, led, heard}
-use Rattle.std.specs.Prelude.{Some, None, Option}
-use Rattle.std.specs.Prelude.{List}
+use Rattle.portclaims.proofs.Shapes.{Rule, by_attach, by_detach, by_acknowledgement, by_failure, fit_in, Shape, refused, idle, again as sent_again, led, heard}
+use Rattle.std.specs.Prelude.{Some, None, Option, List}
 
 -- what becomes of the counter
 pub data Rests (p : Port) (q : Port) : Type 0 where
@@ -82,14 +81,7 @@ module _ (p : Port) (k : Between p) (none : pending_in p ≡ false) where
       refl
   by_rule c e q t (by_acknowledgement d u on) way l = true_not_false (sym on ∙ none)
   by_rule c e q t (by_failure d u on) way l = true_not_false (sym on ∙ none)
-  by_rule c e q t by_hard_reset way l = rested p q (state_of p) no_crc t (change_of (state_of p) Stimulus.HardReset) way nothing_asked refl (Ways.is_over way) refl
-  by_rule c e q t by_sender_response way l = rested p q (state_of p) no_crc t (change_of (state_of p) Stimulus.SenderResponse) way nothing_asked refl (Ways.is_over way) refl
-  by_rule c e q t by_source_capability way l = rested p q (state_of p) no_crc t (change_of (state_of p) Stimulus.SourceCapability) way nothing_asked refl (Ways.is_over way) refl
-  by_rule c e q t by_ps_hard_reset way l = rested p q (state_of p) no_crc t (change_of (state_of p) Stimulus.PsHardReset) way nothing_asked refl (Ways.is_over way) refl
-  by_rule c e q t by_supply_ready way l = rested p q (state_of p) no_crc t (change_of (state_of p) Stimulus.SupplyReady) way nothing_asked refl (Ways.is_over way) refl
-  by_rule c e q t by_yes way l = rested p q (state_of p) no_crc t (change_of (state_of p) Stimulus.Yes) way nothing_asked refl (Ways.is_over way) refl
-  by_rule c e q t by_no way l = rested p q (state_of p) no_crc t (change_of (state_of p) Stimulus.No) way nothing_asked refl (Ways.is_over way) refl
-  by_rule c e q t (by_offer_lem limit o good) way l = rested p q (state_of p) no_crc t (change_of (state_of p) Stimulus.NewOffer) way nothing_asked refl (Ways.is_over way) refl
+  by_rule c e q t rule way l = rested p q (state_of p) no_crc t (change_of (state_of p) e) way nothing_asked refl (Ways.is_over way) refl
 
   hearing_counter : (id : ℕ) (soft : Bool) → (hearing p id soft).channel.counter ≡ counter_after soft false p.channel.counter
   unfolding hears

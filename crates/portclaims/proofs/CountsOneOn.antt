@@ -34,9 +34,8 @@ use Rattle.portclaims.proofs.Truth.{so, true_not_false, then, and, first, second
 use Rattle.portclaims.proofs.Ways as Ways
 use Rattle.portclaims.proofs.Tables as Tables
 use Rattle.portclaims.proofs.Led.{change_channel, turn_state, led_state, at_way}
-use Rattle.portclaims.proofs.Shapes.{Rule, by_attach, by_detach, by_hard_reset, by_acknowledgement, by_failure, by_sender_response, by_source_capability, by_ps_hard_reset, by_supply_ready, by_yes, by_no, by_offer_lem, fit_in, Shape, refused, idle, again as sent_again, led, heard, shape}
-use Rattle.std.specs.Prelude.{Some, None, Option}
-use Rattle.std.specs.Prelude.{List}
+use Rattle.portclaims.proofs.Shapes.{Rule, by_attach, by_detach, by_acknowledgement, by_failure, fit_in, Shape, refused, idle, again as sent_again, led, heard, shape}
+use Rattle.std.specs.Prelude.{Some, None, Option, List}
 
 abbrev pub starts_over : State → Bool
 starts_over s = (same s State.Soft || same s State.Hard) || (same s State.Answering || same s State.Detached)
@@ -52,26 +51,8 @@ abbrev is_aside : Way → Bool
 is_aside w = not (is_sending w || is_hard w)
 
 over_there : (s : State) (w : Way) → Ways.is_over w ≡ true → starts_over (Ways.state_after s w) ≡ true
-over_there s Way.Stay e = true_not_false (sym e)
-over_there s Way.Offered e = true_not_false (sym e)
-over_there s Way.Softened e = true_not_false (sym e)
-over_there s Way.Offer e = true_not_false (sym e)
-over_there s Way.Discovery e = true_not_false (sym e)
-over_there s Way.Disabled e = true_not_false (sym e)
-over_there s Way.Judge e = true_not_false (sym e)
-over_there s Way.Accepting e = true_not_false (sym e)
-over_there s Way.Moving e = true_not_false (sym e)
-over_there s Way.Telling e = true_not_false (sym e)
-over_there s Way.Ready e = true_not_false (sym e)
-over_there s Way.Declining e = true_not_false (sym e)
-over_there s Way.Refusing e = true_not_false (sym e)
-over_there s Way.Waiting e = true_not_false (sym e)
 over_there s Way.Soft e = refl
-over_there s Way.Answering e = true_not_false (sym e)
-over_there s Way.Hard e = refl
-over_there s Way.HardHeard e = refl
-over_there s Way.Default e = true_not_false (sym e)
-over_there s Way.Detached e = true_not_false (sym e)
+over_there s w e = cc
 
 -- ---- a turn of a port whose counter has gone one on
 module _ (p q : Port) (s : State) (crc : Option (List ℕ)) (t : Option Timer) (c : Change) (w : Way) (a : Asked) where
@@ -134,12 +115,7 @@ soft_table = at_packets (λ s h. soft_test s h (on_packet s h)) tt
 pub soft_heard : (m : Meaning) (t : ℕ) (fit : Option Asked) → is_soft_reset m ≡ true → is_soft (heard_as m t fit) ≡ true
 unfolding heard_as
 soft_heard Meaning.SoftReset t fit e = refl
-soft_heard Meaning.Unsupported t fit e = true_not_false (sym e)
-soft_heard Meaning.GoodCrc t fit e = true_not_false (sym e)
-soft_heard Meaning.Reply t fit e = true_not_false (sym e)
-soft_heard Meaning.GetSourceCap t fit e = true_not_false (sym e)
-soft_heard Meaning.Quiet t fit e = true_not_false (sym e)
-soft_heard Meaning.Request t fit e = true_not_false (sym e)
+soft_heard m t fit e = true_not_false (sym e)
 
 module _ (p : Port) (k : Between p) (on : pending_in p ≡ true) where
   module _ (c : Call) (e : Stimulus) (q : Port) (t : Option Timer) (rule : Rule p c e q t) (way : Way) (l : leads (state_of p) e (facts_of p) ≡ Some way) where
@@ -164,16 +140,9 @@ module _ (p : Port) (k : Between p) (on : pending_in p ≡ true) where
   unfolding ended
   by_rule c e q t by_attach way l = from_zero p q (state_of p) no_crc t (change_of (state_of p) Stimulus.Attach) way nothing_asked refl (starting c Stimulus.Attach q t by_attach way l refl) (Ways.is_over way) refl
   by_rule c e q t by_detach way l = from_zero p q (state_of p) no_crc t (change_of (state_of p) Stimulus.Detach) way nothing_asked refl (starting c Stimulus.Detach q t by_detach way l refl) (Ways.is_over way) refl
-  by_rule c e q t by_hard_reset way l = untouched p q (state_of p) no_crc t (change_of (state_of p) Stimulus.HardReset) way nothing_asked refl (Ways.is_over way) refl (aside c Stimulus.HardReset q t by_hard_reset way l refl)
   by_rule c e q t (by_acknowledgement d u o) way l = counted p q (state_of p) no_crc t (change_of (state_of p) Stimulus.Acknowledged) way nothing_asked refl (Ways.is_over way) refl
   by_rule c e q t (by_failure d u o) way l = counted p q (state_of p) no_crc t (change_of (state_of p) Stimulus.Failed) way nothing_asked refl (Ways.is_over way) refl
-  by_rule c e q t by_sender_response way l = untouched p q (state_of p) no_crc t (change_of (state_of p) Stimulus.SenderResponse) way nothing_asked refl (Ways.is_over way) refl (aside c Stimulus.SenderResponse q t by_sender_response way l refl)
-  by_rule c e q t by_source_capability way l = untouched p q (state_of p) no_crc t (change_of (state_of p) Stimulus.SourceCapability) way nothing_asked refl (Ways.is_over way) refl (aside c Stimulus.SourceCapability q t by_source_capability way l refl)
-  by_rule c e q t by_ps_hard_reset way l = untouched p q (state_of p) no_crc t (change_of (state_of p) Stimulus.PsHardReset) way nothing_asked refl (Ways.is_over way) refl (aside c Stimulus.PsHardReset q t by_ps_hard_reset way l refl)
-  by_rule c e q t by_supply_ready way l = untouched p q (state_of p) no_crc t (change_of (state_of p) Stimulus.SupplyReady) way nothing_asked refl (Ways.is_over way) refl (aside c Stimulus.SupplyReady q t by_supply_ready way l refl)
-  by_rule c e q t (by_offer_lem limit o good) way l = untouched p q (state_of p) no_crc t (change_of (state_of p) Stimulus.NewOffer) way nothing_asked refl (Ways.is_over way) refl (aside c Stimulus.NewOffer q t (by_offer_lem limit o good) way l refl)
-  by_rule c e q t by_yes way l = untouched p q (state_of p) no_crc t (change_of (state_of p) Stimulus.Yes) way nothing_asked refl (Ways.is_over way) refl (aside c Stimulus.Yes q t by_yes way l refl)
-  by_rule c e q t by_no way l = untouched p q (state_of p) no_crc t (change_of (state_of p) Stimulus.No) way nothing_asked refl (Ways.is_over way) refl (aside c Stimulus.No q t by_no way l refl)
+  by_rule c e q t rule way l = untouched p q (state_of p) no_crc t (change_of (state_of p) e) way nothing_asked refl (Ways.is_over way) refl (aside c e q t rule way l refl)
 
   hearing_counter : (id : ℕ) (soft : Bool) → (hearing p id soft).channel.counter ≡ counter_after soft true p.channel.counter
   unfolding hears

@@ -26,16 +26,13 @@ use Rattle.portclaims.specs.Between.{calm, is_made, worth_in, Between}
 use Rattle.portclaims.proofs.Truth.{holds, true_not_false, second, not_true}
 use Rattle.portclaims.proofs.Ways as Ways
 use Rattle.portclaims.proofs.Led.{at_way}
-use Rattle.portclaims.proofs.Shapes.{Rule, by_attach, by_detach, by_hard_reset, by_acknowledgement, by_failure, by_sender_response, by_source_capability, by_ps_hard_reset, by_supply_ready, by_yes, by_no, by_offer_lem, fit_in, Shape, refused, idle, again, led, heard, shape}
-use Rattle.std.specs.Prelude.{Some, None, Option}
-use Rattle.std.specs.Prelude.{List, ℕ}
+use Rattle.portclaims.proofs.Shapes.{Rule, by_attach, fit_in, Shape, refused, idle, again, led, heard, shape}
+use Rattle.std.specs.Prelude.{Some, None, Option, List, ℕ}
 
 with_change_lem : (c : Change) (q : Port) → (with_change c q).power.held ≡ held_after c q.power.held q.power.accepted.worth
 unfolding changed
 with_change_lem Change.Nothing q = refl
-with_change_lem Change.Accepted q = refl
-with_change_lem Change.InForce q = refl
-with_change_lem Change.GivenUp q = refl
+with_change_lem c q = refl
 
 turn_holds : (q : Port) (s : State) (crc : Option (List ℕ)) (t : Option Timer) (c : Change) (w : Way) (a : Asked) →
     (turn q s crc t c w a).port.power.held ≡ held_after c q.power.held q.power.accepted.worth
@@ -57,21 +54,7 @@ module _ (p : Port) (k : Between p) where
     where
       detached_is : (s : State) → same s State.Detached ≡ true → s ≡ State.Detached
       detached_is State.Detached e = refl
-      detached_is State.Offer e = true_not_false (sym e)
-      detached_is State.Discovery e = true_not_false (sym e)
-      detached_is State.Disabled e = true_not_false (sym e)
-      detached_is State.Judge e = true_not_false (sym e)
-      detached_is State.Accepting e = true_not_false (sym e)
-      detached_is State.Moving e = true_not_false (sym e)
-      detached_is State.Telling e = true_not_false (sym e)
-      detached_is State.Ready e = true_not_false (sym e)
-      detached_is State.Declining e = true_not_false (sym e)
-      detached_is State.Refusing e = true_not_false (sym e)
-      detached_is State.Waiting e = true_not_false (sym e)
-      detached_is State.Soft e = true_not_false (sym e)
-      detached_is State.Answering e = true_not_false (sym e)
-      detached_is State.Hard e = true_not_false (sym e)
-      detached_is State.Default e = true_not_false (sym e)
+      detached_is s e = true_not_false (sym e)
 
       here : state_of p ≡ State.Detached
       here = detached_is (state_of p) d
@@ -90,17 +73,7 @@ module _ (p : Port) (k : Between p) where
     where
       so_same : T (same (state_of p) State.Detached) → same (state_of p) State.Detached ≡ true
       so_same x = holds (same (state_of p) State.Detached) x
-  by_rule c e q t by_detach way l = refl
-  by_rule c e q t by_hard_reset way l = refl
-  by_rule c e q t (by_acknowledgement d u on) way l = refl
-  by_rule c e q t (by_failure d u on) way l = refl
-  by_rule c e q t by_sender_response way l = refl
-  by_rule c e q t by_source_capability way l = refl
-  by_rule c e q t by_ps_hard_reset way l = refl
-  by_rule c e q t by_supply_ready way l = refl
-  by_rule c e q t by_yes way l = refl
-  by_rule c e q t by_no way l = refl
-  by_rule c e q t (by_offer_lem limit o good) way l = refl
+  by_rule c e q t rule way l = refl
 
   by_shape : (c : Call) (a : Answer) → Shape p c a → a.port.power.held ≡ held_after a.held p.power.held p.power.accepted.worth
   unfolding turn nothing_done resent

@@ -17,21 +17,16 @@ use Rattle.port.specs.Calls.{Call}
 use Rattle.portclaims.proofs.Groups.{clears, expiring}
 use Rattle.portclaims.proofs.Ways as Ways
 use Rattle.portclaims.proofs.Tables as Tables
-use Rattle.portclaims.proofs.Shapes.{is_expiry, Rule, by_attach, by_detach, by_hard_reset, by_acknowledgement, by_failure, by_sender_response, by_source_capability, by_ps_hard_reset, by_supply_ready, by_yes, by_no, by_offer_lem}
-use Rattle.std.specs.Prelude.{Some, None, Option}
-use Rattle.std.specs.Prelude.{List, ℕ}
+use Rattle.portclaims.proofs.Shapes.{is_expiry, Rule, by_acknowledgement, by_failure}
+use Rattle.std.specs.Prelude.{Some, None, Option, List, ℕ}
 
 pub change_state : (p : Port) (c : Change) → state_of (with_change c p) ≡ state_of p
 change_state p Change.Nothing = refl
-change_state p Change.Accepted = refl
-change_state p Change.InForce = refl
-change_state p Change.GivenUp = refl
+change_state p c = refl
 
 pub change_channel : (p : Port) (c : Change) → (with_change c p).channel ≡ p.channel
 change_channel p Change.Nothing = refl
-change_channel p Change.Accepted = refl
-change_channel p Change.InForce = refl
-change_channel p Change.GivenUp = refl
+change_channel p c = refl
 
 -- what the protocol rules do to a port before its state leads on, and to the timer that runs
 pub record Ruled (p : Port) (c : Call) (e : Stimulus) (q : Port) (t : Option Timer) : Type 0 where
@@ -44,18 +39,9 @@ pub record Ruled (p : Port) (c : Call) (e : Stimulus) (q : Port) (t : Option Tim
 
 pub ruled : (p : Port) (c : Call) (e : Stimulus) (q : Port) (t : Option Timer) → Rule p c e q t → Ruled p c e q t
 unfolding ended
-ruled p c e q t by_attach = record { state = refl; pending = refl; count = refl; expiry = refl; runs = refl; possible = refl }
-ruled p c e q t by_detach = record { state = refl; pending = refl; count = refl; expiry = refl; runs = refl; possible = refl }
-ruled p c e q t by_hard_reset = record { state = refl; pending = refl; count = refl; expiry = refl; runs = refl; possible = refl }
 ruled p c e q t (by_acknowledgement d u on) = record { state = refl; pending = refl; count = refl; expiry = u; runs = refl; possible = on }
 ruled p c e q t (by_failure d u on) = record { state = refl; pending = refl; count = refl; expiry = u; runs = refl; possible = on }
-ruled p c e q t by_sender_response = record { state = refl; pending = refl; count = refl; expiry = refl; runs = refl; possible = refl }
-ruled p c e q t by_source_capability = record { state = refl; pending = refl; count = refl; expiry = refl; runs = refl; possible = refl }
-ruled p c e q t by_ps_hard_reset = record { state = refl; pending = refl; count = refl; expiry = refl; runs = refl; possible = refl }
-ruled p c e q t by_supply_ready = record { state = refl; pending = refl; count = refl; expiry = refl; runs = refl; possible = refl }
-ruled p c e q t (by_offer_lem limit o good) = record { state = refl; pending = refl; count = refl; expiry = refl; runs = refl; possible = refl }
-ruled p c e q t by_yes = record { state = refl; pending = refl; count = refl; expiry = refl; runs = refl; possible = refl }
-ruled p c e q t by_no = record { state = refl; pending = refl; count = refl; expiry = refl; runs = refl; possible = refl }
+ruled p c e q t rule = record { state = refl; pending = refl; count = refl; expiry = refl; runs = refl; possible = refl }
 
 pub turn_state : (q : Port) (s : State) (crc : Option (List ℕ)) (t : Option Timer) (c : Change) (w : Way) (a : Asked) → state_of (turn q s crc t c w a).port ≡ Ways.state_after (state_of q) w
 unfolding turn

@@ -5,7 +5,7 @@ use mathlib.Core.Path.{◌≡◌, refl}
 use mathlib.Core.Bool.{true}
 use mathlib.Core.List.{List}
 use Rattle.message.specs.declared.Fields.{Fields}
-use Rattle.reading.specs.Reading.{read_of, part_of}
+use Rattle.reading.specs.Reading.{read_of, part_of, message_with}
 use Rattle.offers.specs.Objects.{position_of, is_mismatch, operating_of, maximum_of}
 use Rattle.offers.specs.Requests.{fits}
 use Rattle.offers.proofs.CapabilityMismatch.{fit_the_same, other_bits_are_ignored}
@@ -13,7 +13,6 @@ use Rattle.port.specs.declared.Port.{Port}
 use Rattle.port.specs.Packets.{first_object, packet_of}
 use Rattle.port.specs.Calls.{packet, step}
 use Rattle.portclaims.proofs.Shapes.{fit_in}
-use Rattle.reading.specs.Reading.{message_with}
 
 abbrev object : List ℕ → ℕ
 object s = first_object (part_of s)

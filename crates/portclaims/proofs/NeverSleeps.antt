@@ -8,14 +8,14 @@ use mathlib.Core.List.{List}
 use lib.Dec.{T, ltb, leb, eqb}
 use Rattle.message.specs.declared.Fields.{Fields}
 use Rattle.meaning.specs.declared.Meaning.{Meaning}
-use Rattle.reading.specs.Reading.{read_of}
+use Rattle.reading.specs.Reading.{read_of, message_with}
 use Rattle.channel.specs.Channel.{pending_id, most_retries}
 use Rattle.channel.specs.Outcomes.{on_good_crc}
 use Rattle.power.specs.declared.Standing.{Standing}
 use Rattle.power.specs.Power.{standing_of, changed}
 use Rattle.source.specs.declared.State.{State}
 use Rattle.source.specs.declared.Timer.{Timer}
-use Rattle.source.specs.declared.Timer.TheVariants.{SenderResponse, SourceCapability, PsHardReset}
+use Rattle.source.specs.declared.Timer.TheVariants.{SenderResponse}
 use Rattle.source.specs.States.{same, listens, running}
 use Rattle.stimuli.specs.Leads.{leads}
 use Rattle.hearing.specs.Packets.{on_packet}
@@ -34,7 +34,6 @@ use Rattle.portclaims.specs.Messages.{by_timer}
 use Rattle.portclaims.proofs.Shapes.{New}
 use Rattle.portclaims.proofs.Truth.{then, and, first}
 use Rattle.portclaims.proofs.FailedSends.{again_or_failed}
-use Rattle.reading.specs.Reading.{message_with}
 use Rattle.std.specs.Prelude.{Some, None, Option}
 
 -- ---- what a port waits for
@@ -43,9 +42,7 @@ at_rest s = same s State.Ready || same s State.Waiting
 
 abbrev runs : Option Timer → Bool
 runs None = false
-runs (Some SenderResponse) = true
-runs (Some SourceCapability) = true
-runs (Some PsHardReset) = true
+runs (Some t) = true
 
 abbrev pub waits : State → Bool → Bool
 waits s pending = at_rest s || (pending || (runs (running s pending) || (same s State.Judge || (same s State.Moving || same s State.Default))))

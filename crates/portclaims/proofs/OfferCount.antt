@@ -47,47 +47,11 @@ counted offer offered n = cond offer (one_offer n) (cond offered 0 n)
 
 made_by : (s : State) (w : Way) → (is_sending w && same (Ways.state_after s w) State.Offer) ≡ is_offer w
 made_by s Way.Stay = refl
-made_by s Way.Offered = refl
-made_by s Way.Softened = refl
-made_by s Way.Offer = refl
-made_by s Way.Discovery = refl
-made_by s Way.Disabled = refl
-made_by s Way.Judge = refl
-made_by s Way.Accepting = refl
-made_by s Way.Moving = refl
-made_by s Way.Telling = refl
-made_by s Way.Ready = refl
-made_by s Way.Declining = refl
-made_by s Way.Refusing = refl
-made_by s Way.Waiting = refl
-made_by s Way.Soft = refl
-made_by s Way.Answering = refl
-made_by s Way.Hard = refl
-made_by s Way.HardHeard = refl
-made_by s Way.Default = refl
-made_by s Way.Detached = refl
+made_by s w = refl
 
 not_both : (w : Way) → (is_offer w && is_offered w) ≡ false
 not_both Way.Stay = refl
-not_both Way.Offered = refl
-not_both Way.Softened = refl
-not_both Way.Offer = refl
-not_both Way.Discovery = refl
-not_both Way.Disabled = refl
-not_both Way.Judge = refl
-not_both Way.Accepting = refl
-not_both Way.Moving = refl
-not_both Way.Telling = refl
-not_both Way.Ready = refl
-not_both Way.Declining = refl
-not_both Way.Refusing = refl
-not_both Way.Waiting = refl
-not_both Way.Soft = refl
-not_both Way.Answering = refl
-not_both Way.Hard = refl
-not_both Way.HardHeard = refl
-not_both Way.Default = refl
-not_both Way.Detached = refl
+not_both w = refl
 
 -- ---- numbers: a count that is at most fifty, and the offers that it stands for
 one_more_by : (c n : ℕ) (b : Bool) → ltb c most_offers ≡ b → c ≡ min most_offers n → cond b (c + 1) most_offers ≡ min most_offers (n + 1)
@@ -99,22 +63,11 @@ one_more c n h = one_more_by c n (ltb c most_offers) refl h
 
 tally : (offer offered given cleared : Bool) (c n : ℕ) → (offer && offered) ≡ false → c ≡ min most_offers n →
     counted offer offered (cond given 0 (cond cleared 0 c)) ≡ min most_offers (cond (offered || (given || cleared)) 0 n + cond offer 1 0)
-tally true true true true c n x h = true_not_false x
-tally true true true false c n x h = true_not_false x
-tally true true false true c n x h = true_not_false x
-tally true true false false c n x h = true_not_false x
-tally true false true true c n x h = one_more 0 0 refl
-tally true false true false c n x h = one_more 0 0 refl
-tally true false false true c n x h = one_more 0 0 refl
+tally true true given cleared c n x h = true_not_false x
 tally true false false false c n x h = one_more c n h
-tally false true true true c n x h = refl
-tally false true true false c n x h = refl
-tally false true false true c n x h = refl
-tally false true false false c n x h = refl
-tally false false true true c n x h = refl
-tally false false true false c n x h = refl
-tally false false false true c n x h = refl
+tally true false given cleared c n x h = one_more 0 0 refl
 tally false false false false c n x h = omega arith
+tally false offered given cleared c n x h = refl
 
 -- ---- what is seen from outside is what the ways do
 abbrev alike : Bool → Bool → Bool
@@ -149,9 +102,7 @@ packet_table s h false = at_packets (λ s h. packet_test s false (on_packet s h)
 -- ---- a turn
 change_count : (c : Change) (q : Port) → (with_change c q).count ≡ cond (is_given_up c) 0 q.count
 change_count Change.Nothing q = refl
-change_count Change.Accepted q = refl
-change_count Change.InForce q = refl
-change_count Change.GivenUp q = refl
+change_count c q = refl
 
 module _ (q : Port) (s : State) (crc : Option (List ℕ)) (t : Option Timer) (c : Change) (w : Way) (a : Asked) where
   turn_count : (turn q s crc t c w a).port.count ≡ counted (is_offer w) (is_offered w) (cond (is_given_up c) 0 q.count)

@@ -16,10 +16,7 @@ other a r p fine no' = cc
 
 by_shape : (p : Port) (c : Call) (a : Answer) (r : Refusal) → Shape p c a → a.verdict ≡ Err r → a ≡ refused_by r p
 unfolding turn resent nothing_done
-by_shape p c a r (refused d s) e = ap (λ (t : Refusal). refused_by t p) (the_refusal s r e)
-  where
-    the_refusal : (s t : Refusal) → Err s ≡ Err t → s ≡ t
-    the_refusal s t e = cc
+by_shape p c a r (refused d s) e = cc
 by_shape p c a r (idle d u crc) e = other (nothing_done crc p) r p refl e
 by_shape p c a r (again d u pending more) e = other (resent p) r p refl e
 by_shape p c a r (led d s after runs way rule l) e = other _ r p refl e

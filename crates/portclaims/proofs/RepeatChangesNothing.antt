@@ -6,7 +6,7 @@ use mathlib.Core.Bool.{Bool, true, false, cond}
 use mathlib.Core.List.{List}
 use Rattle.message.specs.declared.Fields.{Fields}
 use Rattle.meaning.specs.declared.Meaning.{Meaning}
-use Rattle.reading.specs.Reading.{read_of}
+use Rattle.reading.specs.Reading.{read_of, message_with}
 use Rattle.channel.specs.Channel.{is_repeat}
 use Rattle.source.specs.States.{same, listens}
 use Rattle.port.specs.declared.Port.{Port}
@@ -15,11 +15,11 @@ use Rattle.port.specs.Steps.{nothing_done}
 use Rattle.port.specs.Packets.{meaning_in, crc_for, other_packet, by_meaning, message_of, packet_of}
 use Rattle.portclaims.specs.Repeats.{only_good_crc, aside}
 use Rattle.portclaims.proofs.Shapes.{fit_in}
-use Rattle.reading.specs.Reading.{message_with}
 use Rattle.std.specs.Prelude.{None, Option}
+use Rattle.source.specs.declared.Timer.{Timer}
 use Rattle.offers.specs.declared.Asked.{Asked}
 
-either_way : (b : Bool) → cond b None None ≡ None
+either_way : (b : Bool) → cond {A = Option Timer} b None None ≡ None
 either_way true = refl
 either_way false = refl
 
@@ -30,13 +30,9 @@ nothing_else f p = rw (either_way (same (state_of p) (state_of p))) refl
 module _ (p : Port) (f : Fields) (fit : Option Asked) (again : is_repeat p.channel f.message_id ≡ true) where
   by_meaning_lem : (m : Meaning) → aside m ≡ false → by_meaning m p f fit ≡ only_good_crc f p
   unfolding by_meaning other_packet
-  by_meaning_lem Meaning.Unsupported e = rw again (nothing_else f p)
   by_meaning_lem Meaning.GoodCrc e = cc
-  by_meaning_lem Meaning.Reply e = rw again (nothing_else f p)
-  by_meaning_lem Meaning.GetSourceCap e = rw again (nothing_else f p)
   by_meaning_lem Meaning.SoftReset e = cc
-  by_meaning_lem Meaning.Quiet e = rw again (nothing_else f p)
-  by_meaning_lem Meaning.Request e = rw again (nothing_else f p)
+  by_meaning_lem m e = rw again (nothing_else f p)
 
 -- THE CLAIM
 pub repeat_changes_nothing : (p : Port) (s : List ℕ) (n : ℕ) (f : Fields) → listens (state_of p) ≡ true → read_of s ≡ message_with n f →

@@ -9,7 +9,7 @@ use Rattle.ground.specs.declared.Refusal.{Refusal}
 use Rattle.ground.specs.declared.Refusal.TheVariants.{NotAwaited, BadOffer}
 use Rattle.message.specs.declared.Fields.{Fields}
 use Rattle.meaning.specs.declared.Meaning.{Meaning}
-use Rattle.reading.specs.Reading.{read_of, part_of}
+use Rattle.reading.specs.Reading.{read_of, part_of, message_with}
 use Rattle.offers.specs.declared.Offer.{Offer}
 use Rattle.offers.specs.Offers.{good_offer}
 use Rattle.offers.specs.Requests.{fit_of}
@@ -33,7 +33,6 @@ use Rattle.port.specs.Memory.{state_of, cleared, pending_in, facts_of, running_i
 use Rattle.port.specs.Steps.{turn, led_to, happens, ending, acknowledged, failed, resent, by_outcome, nothing_done, event_of, replaced, offer_judged, new_offer_of}
 use Rattle.port.specs.Packets.{heard_as, asked_by, is_soft_reset, crc_for, hearing, led_by, new_packet, other_packet, good_crc_heard, by_meaning, message_of, meaning_in, first_object, packet_of, read_to}
 use Rattle.port.specs.Calls.{Call, event, packet, new_offer, step}
-use Rattle.reading.specs.Reading.{message_with}
 use Rattle.std.specs.Prelude.{Some, None, Ok, Err, Option, Result}
 use Rattle.reading.specs.declared.Message.{Message}
 use Rattle.offers.specs.declared.Asked.{Asked}
@@ -169,13 +168,8 @@ module _ (p : Port) where
 
     on_meaning : (m : Meaning) → meaning_in n f ≡ m → Shape p (packet s) (by_meaning m p f fit)
     unfolding by_meaning
-    on_meaning Meaning.Unsupported g = on_other Meaning.Unsupported g
     on_meaning Meaning.GoodCrc g = on_good_crc_lem
-    on_meaning Meaning.Reply g = on_other Meaning.Reply g
-    on_meaning Meaning.GetSourceCap g = on_other Meaning.GetSourceCap g
-    on_meaning Meaning.SoftReset g = on_other Meaning.SoftReset g
-    on_meaning Meaning.Quiet g = on_other Meaning.Quiet g
-    on_meaning Meaning.Request g = on_other Meaning.Request g
+    on_meaning m g = on_other m g
 
   on_message : (s : List ℕ) (n : ℕ) (f : Fields) → read_of s ≡ message_with n f → (b : Bool) → listens (state_of p) ≡ b →
       Shape p (packet s) (cond b (by_meaning (meaning_in n f) p f (fit_in p n s)) (refused_by NotAwaited p))

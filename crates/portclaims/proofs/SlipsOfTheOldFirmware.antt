@@ -8,7 +8,7 @@ use lib.Dec.{T, ltb, leb}
 use Rattle.message.specs.declared.Fields.{Fields}
 use Rattle.message.specs.Types as Types
 use Rattle.meaning.specs.declared.Meaning.{Meaning}
-use Rattle.reading.specs.Reading.{read_of, part_of}
+use Rattle.reading.specs.Reading.{read_of, part_of, message_with}
 use Rattle.offers.specs.declared.Offer.{Offer}
 use Rattle.offers.specs.Requests.{asked}
 use Rattle.outgoing.specs.Packets.{no_packet, control_of, data_of}
@@ -47,7 +47,6 @@ use Rattle.portclaims.proofs.HeldByChange.{held_by_change}
 use Rattle.portclaims.proofs.AcceptExactly.{FittingRequest, comes_to_ask, AskedBy, by_packet, asks_only_so}
 use Rattle.portclaims.proofs.FailedSends.{again_or_failed, offer_fails_unconnected}
 use Rattle.portclaims.proofs.Shapes.{Shape, refused, idle, again, led, heard, shape}
-use Rattle.reading.specs.Reading.{message_with}
 use Rattle.std.specs.Prelude.{Some, None, Option}
 
 -- ---- "Old power let go when the new Accept goes out, though the output has not moved."
@@ -110,22 +109,8 @@ answers_soft_reset s = listens s && not (is_stricter s)
 
 to_answering : (s : State) → answers_soft_reset s ≡ true → on_packet s Heard.SoftReset ≡ Some Way.Answering
 unfolding on_packet
-to_answering State.Detached e = true_not_false (sym e)
 to_answering State.Offer e = refl
-to_answering State.Discovery e = refl
-to_answering State.Disabled e = true_not_false (sym e)
-to_answering State.Judge e = refl
-to_answering State.Accepting e = true_not_false (sym e)
-to_answering State.Moving e = true_not_false (sym e)
-to_answering State.Telling e = true_not_false (sym e)
-to_answering State.Ready e = refl
-to_answering State.Declining e = refl
-to_answering State.Refusing e = refl
-to_answering State.Waiting e = refl
-to_answering State.Soft e = refl
-to_answering State.Answering e = refl
-to_answering State.Hard e = true_not_false (sym e)
-to_answering State.Default e = true_not_false (sym e)
+to_answering s e = cc
 
 never_a_repeat : (b : Bool) → (b && false) ≡ false
 never_a_repeat true = refl
@@ -134,21 +119,7 @@ never_a_repeat false = refl
 to_hard : (s : State) → is_stricter s ≡ true → (listens s ≡ true) × (on_packet s Heard.SoftReset ≡ Some Way.Hard)
 unfolding on_packet
 to_hard State.Accepting e = (refl, refl)
-to_hard State.Moving e = (refl, refl)
-to_hard State.Telling e = (refl, refl)
-to_hard State.Detached e = true_not_false (sym e)
-to_hard State.Offer e = true_not_false (sym e)
-to_hard State.Discovery e = true_not_false (sym e)
-to_hard State.Disabled e = true_not_false (sym e)
-to_hard State.Judge e = true_not_false (sym e)
-to_hard State.Ready e = true_not_false (sym e)
-to_hard State.Declining e = true_not_false (sym e)
-to_hard State.Refusing e = true_not_false (sym e)
-to_hard State.Waiting e = true_not_false (sym e)
-to_hard State.Soft e = true_not_false (sym e)
-to_hard State.Answering e = true_not_false (sym e)
-to_hard State.Hard e = true_not_false (sym e)
-to_hard State.Default e = true_not_false (sym e)
+to_hard s e = (cc, cc)
 
 -- THE CLAIM: whatever MessageID is stored, a Soft_Reset is answered with Accept from counter 0, and its MessageID stored
 pub soft_reset_is_no_repeat : (p : Port) (s : List ℕ) (n : ℕ) (f : Fields) → read_of s ≡ message_with n f → meaning_in n f ≡ Meaning.SoftReset →

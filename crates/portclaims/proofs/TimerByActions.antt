@@ -49,20 +49,10 @@ alike t u = eqb (code_of t) (code_of u)
 are_alike : (t u : Option Timer) → alike t u ≡ true → t ≡ u
 are_alike None None e = refl
 are_alike None (Some SenderResponse) e = true_not_false (sym e)
-are_alike None (Some SourceCapability) e = true_not_false (sym e)
-are_alike None (Some PsHardReset) e = true_not_false (sym e)
-are_alike (Some SenderResponse) None e = true_not_false (sym e)
 are_alike (Some SenderResponse) (Some SenderResponse) e = refl
-are_alike (Some SenderResponse) (Some SourceCapability) e = true_not_false (sym e)
-are_alike (Some SenderResponse) (Some PsHardReset) e = true_not_false (sym e)
-are_alike (Some SourceCapability) None e = true_not_false (sym e)
-are_alike (Some SourceCapability) (Some SenderResponse) e = true_not_false (sym e)
 are_alike (Some SourceCapability) (Some SourceCapability) e = refl
-are_alike (Some SourceCapability) (Some PsHardReset) e = true_not_false (sym e)
-are_alike (Some PsHardReset) None e = true_not_false (sym e)
-are_alike (Some PsHardReset) (Some SenderResponse) e = true_not_false (sym e)
-are_alike (Some PsHardReset) (Some SourceCapability) e = true_not_false (sym e)
 are_alike (Some PsHardReset) (Some PsHardReset) e = refl
+are_alike t u e = true_not_false (sym e)
 
 abbrev before : Bool → Option Timer → Option Timer
 before expired t = cond expired None t
@@ -110,7 +100,7 @@ and_false : (b : Bool) → (b && false) ≡ false
 and_false true = refl
 and_false false = refl
 
-either_way : (b : Bool) → cond b None None ≡ None
+either_way : (b : Bool) → cond {A = Option Timer} b None None ≡ None
 either_way true = refl
 either_way false = refl
 

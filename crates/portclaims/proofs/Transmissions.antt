@@ -33,7 +33,7 @@ use Rattle.port.specs.Calls.{Call, step, run}
 use Rattle.portclaims.specs.Messages.{control, offer, First, Transmits, nothing, first, again, SentAgain, Fate, kept, goes_again, made, gone, Kept, to_the_end, quietly, once_more, Sent, at_once, later, Made}
 use Rattle.portclaims.proofs.Truth.{true_not_false, below}
 use Rattle.portclaims.proofs.Led.{change_channel}
-use Rattle.portclaims.proofs.Shapes.{Rule, by_attach, by_detach, by_hard_reset, by_acknowledgement, by_failure, by_sender_response, by_source_capability, by_ps_hard_reset, by_supply_ready, by_yes, by_no, by_offer_lem, Shape, refused, idle, again as sent_again, led, heard, shape}
+use Rattle.portclaims.proofs.Shapes.{Rule, by_attach, by_detach, by_acknowledgement, by_failure, Shape, refused, idle, again as sent_again, led, heard, shape}
 use Rattle.std.specs.Prelude.{Option}
 
 -- ---- what a way does to the pending message: it is kept, or one is made, or none is left
@@ -44,26 +44,16 @@ pub data Passed (p : Port) (e : Entered) : Type 0 where
 
 passed : (w : Way) (a : Asked) (p : Port) → Passed p (enter w a p)
 unfolding enter sends
-passed Way.Stay a p = keeps refl refl
-passed Way.Offered a p = keeps refl refl
-passed Way.Softened a p = keeps refl refl
 passed Way.Offer a p = makes (record { pending = refl; ours = offer p.channel.counter p.newest.objects p.newest.count })
-passed Way.Discovery a p = keeps refl refl
-passed Way.Disabled a p = keeps refl refl
-passed Way.Judge a p = keeps refl refl
 passed Way.Accepting a p = makes (record { pending = refl; ours = control Types.Accept p.channel.counter })
-passed Way.Moving a p = keeps refl refl
 passed Way.Telling a p = makes (record { pending = refl; ours = control Types.PsRdy p.channel.counter })
-passed Way.Ready a p = keeps refl refl
 passed Way.Declining a p = makes (record { pending = refl; ours = control Types.NotSupported p.channel.counter })
 passed Way.Refusing a p = makes (record { pending = refl; ours = control Types.Reject p.channel.counter })
-passed Way.Waiting a p = keeps refl refl
 passed Way.Soft a p = makes (record { pending = refl; ours = control Types.SoftReset 0 })
 passed Way.Answering a p = makes (record { pending = refl; ours = control Types.Accept p.channel.counter })
 passed Way.Hard a p = clears refl refl
 passed Way.HardHeard a p = clears refl refl
-passed Way.Default a p = keeps refl refl
-passed Way.Detached a p = keeps refl refl
+passed w a p = keeps refl refl
 
 -- ---- a step
 module _ (q : Port) (s : State) (crc : Option (List ℕ)) (t : Option Timer) (c : Change) (w : Way) (a : Asked) where
@@ -88,16 +78,9 @@ module _ (p : Port) where
   unfolding ended
   after_rule c e q t by_attach = inr refl
   after_rule c e q t by_detach = inr refl
-  after_rule c e q t by_hard_reset = inl refl
   after_rule c e q t (by_acknowledgement d u on) = inr refl
   after_rule c e q t (by_failure d u on) = inr refl
-  after_rule c e q t by_sender_response = inl refl
-  after_rule c e q t by_source_capability = inl refl
-  after_rule c e q t by_ps_hard_reset = inl refl
-  after_rule c e q t by_supply_ready = inl refl
-  after_rule c e q t by_yes = inl refl
-  after_rule c e q t by_no = inl refl
-  after_rule c e q t (by_offer_lem limit o good) = inl refl
+  after_rule c e q t rule = inl refl
 
   none_once_heard : (id : ℕ) (soft : Bool) → pending_in (hearing p id soft) ≡ false
   unfolding hears

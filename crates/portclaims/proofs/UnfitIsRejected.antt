@@ -1,6 +1,6 @@
 -- A new Request that comes awaited or in Ready and does not fit the last offer put on the wire is rejected: Reject goes out, and power is as it was. Assumes nothing.
 use Prim.Native.Nat.{ℕ}
-use mathlib.Core.Path.{◌≡◌, refl, sym}
+use mathlib.Core.Path.{◌≡◌, refl}
 use mathlib.Core.Bool.{true, false}
 use mathlib.Core.List.{List}
 use Rattle.message.specs.declared.Fields.{Fields}
@@ -22,28 +22,13 @@ use Rattle.port.specs.Steps.{turn}
 use Rattle.port.specs.Packets.{first_object, crc_for, heard_as, other_packet, new_packet, by_meaning, message_of, packet_of}
 use Rattle.port.specs.Calls.{packet, step}
 use Rattle.portclaims.specs.Awaited.{awaits_request}
-use Rattle.portclaims.proofs.Truth.{true_not_false}
 use Rattle.portclaims.proofs.Shapes.{New}
 use Rattle.std.specs.Prelude.{Some}
 
 to_refusing : (s : State) → awaits_request s ≡ true → on_packet s Heard.OtherRequest ≡ Some Way.Refusing
 unfolding on_packet
 to_refusing State.Offer e = refl
-to_refusing State.Discovery e = refl
-to_refusing State.Ready e = refl
-to_refusing State.Detached e = true_not_false (sym e)
-to_refusing State.Disabled e = true_not_false (sym e)
-to_refusing State.Judge e = true_not_false (sym e)
-to_refusing State.Accepting e = true_not_false (sym e)
-to_refusing State.Moving e = true_not_false (sym e)
-to_refusing State.Telling e = true_not_false (sym e)
-to_refusing State.Declining e = true_not_false (sym e)
-to_refusing State.Refusing e = true_not_false (sym e)
-to_refusing State.Waiting e = true_not_false (sym e)
-to_refusing State.Soft e = true_not_false (sym e)
-to_refusing State.Answering e = true_not_false (sym e)
-to_refusing State.Hard e = true_not_false (sym e)
-to_refusing State.Default e = true_not_false (sym e)
+to_refusing s e = cc
 
 -- THE CLAIM
 pub unfit_is_rejected : (p : Port) (s : List ℕ) (n : ℕ) (f : Fields) → New p s n f Meaning.Request → awaits_request (state_of p) ≡ true →

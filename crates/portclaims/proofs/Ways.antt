@@ -92,23 +92,5 @@ pub record Goes (w : Way) (p : Port) (e : Entered) : Type 0 where
 
 pub goes : (w : Way) (a : Asked) (p : Port) → Goes w p (enter w a p)
 unfolding enter sends control_of data_of
-goes Way.Stay a p = record { state = refl; pending = refl; gone_out = refl; contract = refl; held = refl; start = refl; count = refl; counter = refl; sent = refl; quiet = λ h. refl; alone = λ h. refl }
-goes Way.Offered a p = record { state = refl; pending = refl; gone_out = refl; contract = refl; held = refl; start = refl; count = refl; counter = refl; sent = refl; quiet = λ h. refl; alone = λ h. refl }
-goes Way.Softened a p = record { state = refl; pending = refl; gone_out = refl; contract = refl; held = refl; start = refl; count = refl; counter = refl; sent = refl; quiet = λ h. refl; alone = λ h. refl }
 goes Way.Offer a p = record { state = refl; pending = some p.newest.count; gone_out = refl; contract = refl; held = refl; start = refl; count = refl; counter = refl; sent = rw (some p.newest.count) refl; quiet = true_not_false; alone = true_not_false }
-goes Way.Discovery a p = record { state = refl; pending = refl; gone_out = refl; contract = refl; held = refl; start = refl; count = refl; counter = refl; sent = refl; quiet = λ h. refl; alone = λ h. refl }
-goes Way.Disabled a p = record { state = refl; pending = refl; gone_out = refl; contract = refl; held = refl; start = refl; count = refl; counter = refl; sent = refl; quiet = λ h. refl; alone = λ h. refl }
-goes Way.Judge a p = record { state = refl; pending = refl; gone_out = refl; contract = refl; held = refl; start = refl; count = refl; counter = refl; sent = refl; quiet = λ h. refl; alone = λ h. refl }
-goes Way.Accepting a p = record { state = refl; pending = refl; gone_out = refl; contract = refl; held = refl; start = refl; count = refl; counter = refl; sent = refl; quiet = true_not_false; alone = true_not_false }
-goes Way.Moving a p = record { state = refl; pending = refl; gone_out = refl; contract = refl; held = refl; start = refl; count = refl; counter = refl; sent = refl; quiet = λ h. refl; alone = λ h. refl }
-goes Way.Telling a p = record { state = refl; pending = refl; gone_out = refl; contract = refl; held = refl; start = refl; count = refl; counter = refl; sent = refl; quiet = true_not_false; alone = true_not_false }
-goes Way.Ready a p = record { state = refl; pending = refl; gone_out = refl; contract = refl; held = refl; start = refl; count = refl; counter = refl; sent = refl; quiet = λ h. refl; alone = λ h. refl }
-goes Way.Declining a p = record { state = refl; pending = refl; gone_out = refl; contract = refl; held = refl; start = refl; count = refl; counter = refl; sent = refl; quiet = true_not_false; alone = true_not_false }
-goes Way.Refusing a p = record { state = refl; pending = refl; gone_out = refl; contract = refl; held = refl; start = refl; count = refl; counter = refl; sent = refl; quiet = true_not_false; alone = true_not_false }
-goes Way.Waiting a p = record { state = refl; pending = refl; gone_out = refl; contract = refl; held = refl; start = refl; count = refl; counter = refl; sent = refl; quiet = λ h. refl; alone = λ h. refl }
-goes Way.Soft a p = record { state = refl; pending = refl; gone_out = refl; contract = refl; held = refl; start = refl; count = refl; counter = refl; sent = refl; quiet = true_not_false; alone = true_not_false }
-goes Way.Answering a p = record { state = refl; pending = refl; gone_out = refl; contract = refl; held = refl; start = refl; count = refl; counter = refl; sent = refl; quiet = true_not_false; alone = true_not_false }
-goes Way.Hard a p = record { state = refl; pending = refl; gone_out = refl; contract = refl; held = refl; start = refl; count = refl; counter = refl; sent = refl; quiet = λ h. refl; alone = true_not_false }
-goes Way.HardHeard a p = record { state = refl; pending = refl; gone_out = refl; contract = refl; held = refl; start = refl; count = refl; counter = refl; sent = refl; quiet = λ h. refl; alone = true_not_false }
-goes Way.Default a p = record { state = refl; pending = refl; gone_out = refl; contract = refl; held = refl; start = refl; count = refl; counter = refl; sent = refl; quiet = λ h. refl; alone = λ h. refl }
-goes Way.Detached a p = record { state = refl; pending = refl; gone_out = refl; contract = refl; held = refl; start = refl; count = refl; counter = refl; sent = refl; quiet = λ h. refl; alone = λ h. refl }
+goes w a p = record { state = refl; pending = refl; gone_out = refl; contract = refl; held = refl; start = refl; count = refl; counter = refl; sent = refl; quiet = λ h. cc; alone = λ h. cc }

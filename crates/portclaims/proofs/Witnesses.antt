@@ -13,7 +13,7 @@ use Rattle.message.specs.Types as Types
 use Rattle.message.specs.declared.Fields.{Fields}
 use Rattle.meaning.specs.declared.Meaning.{Meaning}
 use Rattle.meaning.specs.Meaning.{meaning_of}
-use Rattle.reading.specs.Reading.{read_of, reading_tried, part_of}
+use Rattle.reading.specs.Reading.{read_of, reading_tried, part_of, message_with}
 use Rattle.offers.specs.declared.Offer.{Offer}
 use Rattle.offers.specs.Offers.{object_at, good_object, good_from, good_offer}
 use Rattle.offers.specs.Requests.{fits, asked, fit_of, is_honoured}
@@ -44,7 +44,6 @@ use Rattle.portclaims.proofs.Shapes.{New}
 use Rattle.portclaims.proofs.AcceptExactly.{FittingRequest}
 use Rattle.portclaims.proofs.Groups.{is_stricter}
 use Rattle.portclaims.proofs.SlipsOfTheOldFirmware.{answers_soft_reset}
-use Rattle.reading.specs.Reading.{message_with}
 use Rattle.std.specs.Prelude.{Some, None, Err}
 
 -- ---- offers: both objects, and 5 V 1 A alone, after which a contract for 3 A no longer stands
@@ -220,7 +219,7 @@ Example7Begins =
 abbrev at_the_request : Actions
 at_the_request =
     record {
-      good_crc = record { sent = true; bytes = 0xA1 ∷ 0x03 ∷ [] };
+      good_crc = Some (0xA1 ∷ 0x03 ∷ []);
       stop = None;
       transmit = no_packet;
       hard_reset = false;
@@ -231,7 +230,7 @@ at_the_request =
 abbrev at_yes : Actions
 at_yes =
     record {
-      good_crc = record { sent = false; bytes = 0 ∷ 0 ∷ [] };
+      good_crc = None;
       stop = None;
       transmit = control_of Types.Accept 3;
       hard_reset = false;
@@ -253,7 +252,7 @@ Example7Answers =
 abbrev pub Example7Repeats : Type 0
 Example7Repeats =
     (step (at in_accepting) (packet asks_9v) ≡ only_good_crc (theirs 1 2) (at in_accepting))
-    × ((only_good_crc (theirs 1 2) (at in_accepting)).actions.good_crc.bytes ≡ 0xA1 ∷ 0x03 ∷ [])
+    × ((only_good_crc (theirs 1 2) (at in_accepting)).actions.good_crc ≡ Some (0xA1 ∷ 0x03 ∷ []))
     × (read_of asks_9v ≡ message_with 1 (theirs 1 2))
     × (listens (state_of (at in_accepting)) ≡ true)
     × (is_repeat (at in_accepting).channel 1 ≡ true)

@@ -1,12 +1,11 @@
 -- What holds of a port between events: where a message may be pending, the timer that runs, what Ready and Waiting have, what is held.
-use Rattle.std.specs.Prelude.{ℕ, ◌<◌, ◌≤◌, ◌≡◌, Bool, true, false, not, cond, ◌&&◌, ◌||◌, List, [], ◌∷◌}
+use Rattle.std.specs.Prelude.{ℕ, ◌<◌, ◌≤◌, ◌≡◌, Bool, true, false, not, cond, ◌&&◌, ◌||◌, List, [], ◌∷◌, Some, None, Option}
 use Rattle.channel.specs.declared.Channel.{Channel}
 use Rattle.channel.specs.Channel.{is_pending, pending_id, most_retries, fresh}
 use Rattle.source.specs.declared.State.{State}
 use Rattle.source.specs.States.{same}
 use Rattle.port.specs.declared.Port.{Port}
 use Rattle.port.specs.Memory.{state_of, pending_in, most_offers}
-use Rattle.std.specs.Prelude.{Some, None, Option}
 use Rattle.offers.specs.declared.Asked.{Asked}
 
 abbrev pub one_of : List State → State → Bool

@@ -1,5 +1,5 @@
 -- Where an answer leads, with all that the paper says of entering there: Offer, Soft and Hard.
-use Rattle.std.specs.Prelude.{◌≡◌, true}
+use Rattle.std.specs.Prelude.{◌≡◌, true, Some, None}
 use Rattle.message.specs.Types as Types
 use Rattle.offers.specs.declared.Offer.{Offer}
 use Rattle.outgoing.specs.Packets.{no_packet, control_of, data_of}
@@ -8,7 +8,6 @@ use Rattle.source.specs.declared.State.{State}
 use Rattle.source.specs.declared.Timer.TheVariants.{PsHardReset}
 use Rattle.port.specs.declared.Answer.{Answer}
 use Rattle.port.specs.Memory.{state_of}
-use Rattle.std.specs.Prelude.{Some, None}
 
 -- "Offer: newest offer becomes last offer and is transmitted": offer o, with the counter as its MessageID
 pub record ToOffer (o : Offer) (a : Answer) : Type 0 where

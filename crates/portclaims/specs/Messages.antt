@@ -3,7 +3,7 @@ use Rattle.std.specs.Prelude.{ℕ, ◌+◌, ◌<◌, ◌≤◌, ◌≡◌, true,
 use Rattle.message.specs.declared.Fields.{Fields}
 use Rattle.message.specs.Types as Types
 use Rattle.meaning.specs.declared.Meaning.{Meaning}
-use Rattle.reading.specs.Reading.{read_of}
+use Rattle.reading.specs.Reading.{read_of, message_with}
 use Rattle.outgoing.specs.declared.Packet.{Packet}
 use Rattle.outgoing.specs.Packets.{no_packet, control_of, data_of}
 use Rattle.channel.specs.Channel.{pending_id, most_retries}
@@ -14,7 +14,6 @@ use Rattle.port.specs.declared.Event.{Event}
 use Rattle.port.specs.Memory.{state_of, pending_in}
 use Rattle.port.specs.Packets.{meaning_in}
 use Rattle.port.specs.Calls.{Call, event, packet, step, run}
-use Rattle.reading.specs.Reading.{message_with}
 
 -- a message of ours with this MessageID
 pub data Ours : Packet → ℕ → Type 0 where

@@ -1,5 +1,5 @@
 -- A packet that repeats the stored MessageID: which packets are left aside, and the answer to the others.
-use Rattle.std.specs.Prelude.{Bool, true, false}
+use Rattle.std.specs.Prelude.{Bool, true, false, None, Ok}
 use Rattle.message.specs.declared.Fields.{Fields}
 use Rattle.meaning.specs.declared.Meaning.{Meaning}
 use Rattle.outgoing.specs.Packets.{no_packet}
@@ -7,7 +7,6 @@ use Rattle.power.specs.declared.Change.{Change}
 use Rattle.port.specs.declared.Port.{Port}
 use Rattle.port.specs.declared.Answer.{Answer}
 use Rattle.port.specs.Packets.{crc_for}
-use Rattle.std.specs.Prelude.{None, Ok}
 
 -- the same port, and nothing done but a GoodCRC
 abbrev pub only_good_crc : Fields → Port → Answer

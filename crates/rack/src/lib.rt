@@ -40,8 +40,7 @@ impl Rack {
     fn ports(self) -> usize
         ensures { result ≡ ports_in self }
     {
-        let n = self.count as usize;
-        if n < PORTS { n } else { PORTS }
+        (self.count as usize).min(PORTS)
     }
 
     // Whether the rack has a port of this number.
@@ -56,13 +55,9 @@ impl Rack {
     pub fn load(self) -> u64
         ensures { result ≡ loads self }
     {
-        let n = self.ports();
         let mut total: u64 = 0;
-        let mut i: usize = 0;
-        while i < n {
-            let s = self.slots[i];
+        for s in &self.slots[..self.ports()] {
             total += s.load() as u64;
-            i += 1;
         }
         total
     }
@@ -101,14 +96,8 @@ impl Rack {
         requires { i < most_ports }
         ensures { result ≡ put self i p }
     {
-        let s = self.slot(i);
-        let t = Slot {
-            port: p,
-            share: s.share,
-            limit: s.limit,
-        };
         let mut r = self;
-        r.slots[i] = t;
+        r.slots[i].port = p;
         r
     }
 

@@ -1,14 +1,13 @@
 -- Laws of a good set-up, port by port. Assumes nothing.
-use Prim.Native.Nat.{ℕ, zero, suc, ◌+◌, ◌<◌, ◌≤◌}
+use Prim.Native.Nat.{ℕ, zero, suc, ◌<◌, ◌≤◌}
 use native.Mathlib.Nat.{not-suc-le-zero}
-use native.Mathlib.Numerals.{add-one}
 use native.Mathlib.Omega.{arith}
 use mathlib.Core.Path.{◌≡◌, refl, sym, ap, ◌∙◌}
 use mathlib.Core.Bool.{Bool, true, false, ◌&&◌}
 use lib.Dec.{eqb, leb}
 use borrow.Author.Tests.{le-leb, lt-leb, eqb-true, eqb-false}
 use Rattle.rack.specs.Ports.{most_ports}
-use Rattle.rack.proofs.Totals.{below, total_more}
+use Rattle.rack.proofs.Totals.{below}
 use Rattle.setup.specs.declared.SetUp.{SetUp}
 use Rattle.setup.specs.SetUps.{setting, good_setting, everywhere, shares, good_count, good_supply, good_set_up}
 
@@ -16,11 +15,8 @@ and_false : (b : Bool) → (b && false) ≡ false
 and_false true = refl
 and_false false = refl
 
--- ---- something that holds at each place, or does not hold at one
+-- ---- something that does not hold at one place
 module _ (f : ℕ → Bool) where
-  pub everywhere_more : (n : ℕ) → everywhere f n ≡ true → f n ≡ true → everywhere f (n + 1) ≡ true
-  everywhere_more n e h = rw (add-one n, e, h) refl
-
   pub not_everywhere : (n i : ℕ) → i < n → f i ≡ false → everywhere f n ≡ false
   not_everywhere zero i h e = absurd (not-suc-le-zero h)
   not_everywhere (suc n) i h e = by_test (eqb i n) refl (λ l. not_everywhere n i l e)
@@ -48,9 +44,6 @@ module _ (u : SetUp) where
   pub one_is_bad : (i : ℕ) → i < u.count → good_setting (setting u i) ≡ false → false ≡ good_set_up u
   unfolding good_set_up
   one_is_bad i h e = rw (not_everywhere (λ k. good_setting (setting u k)) u.count i h e, and_false (good_count u.count)) refl
-
-  pub shares_more : (sum i : ℕ) → sum ≡ shares u i → sum + (setting u i).share ≡ shares u (i + 1)
-  shares_more sum i e = rw (total_more (λ k. (setting u k).share) i, e) refl
 
   -- all ports are good: what is left to test
   pub all_are_good : (i sum : ℕ) → 1 ≤ u.count → u.count ≤ most_ports → i ≤ u.count → u.count ≤ i → good_ports i ≡ true → sum ≡ shares u i →

@@ -39,8 +39,7 @@ pub struct SetUp {
 fn good_setting(s: Setting) -> bool
     ensures { result ≡ good_setting s }
 {
-    let o = s.offer;
-    let offered = offers::good(s.limit, o);
+    let offered = offers::good(s.limit, s.offer);
     (LEAST <= s.share) & (s.share <= s.limit) & (s.limit <= LARGEST_LIMIT) & offered
 }
 
@@ -49,22 +48,15 @@ pub fn good(u: SetUp) -> bool
     ensures { result ≡ good_set_up u }
 {
     let n = u.count as usize;
+    if n < 1 || PORTS < n {
+        return false;
+    }
     let mut shares: u64 = 0;
-    let mut i: usize = 0;
-    if n < 1 {
-        return false;
-    }
-    if PORTS < n {
-        return false;
-    }
-    while i < n {
-        let s = u.settings[i];
-        if good_setting(s) {
-            shares += s.share as u64;
-            i += 1;
-        } else {
+    for &s in &u.settings[..n] {
+        if !good_setting(s) {
             return false;
         }
+        shares += s.share as u64;
     }
     (LEAST <= u.supply) & (u.supply <= LARGEST_SUPPLY) & (shares <= u.supply as u64)
 }
@@ -83,15 +75,7 @@ fn slot_of(s: Setting) -> Slot
 fn slots_of(settings: [Setting; PORTS]) -> [Slot; PORTS]
     ensures { result ≡ map slot_of settings }
 {
-    let first = settings[0];
-    let mut slots = [slot_of(first); PORTS];
-    let mut i: usize = 0;
-    while i < PORTS {
-        let s = settings[i];
-        slots[i] = slot_of(s);
-        i += 1;
-    }
-    slots
+    settings.map(slot_of)
 }
 
 // A rack without ports, which is there before the first set-up.

@@ -1,31 +1,21 @@
--- Numbers that are taken into a checksum one by one: what is left of a message after so many of its bytes. Assumes nothing.
-use Prim.Native.Nat.{ℕ, ◌+◌, ◌<◌, ◌≤◌}
-use native.Mathlib.Numerals.{add-one}
+-- Numbers that are taken into a checksum one by one: a message once all of its bytes are in. Assumes nothing.
+use Prim.Native.Nat.{ℕ, ◌<◌, ◌≤◌, min}
 use native.Mathlib.Omega.{arith}
-use mathlib.Core.Path.{◌≡◌, refl, sym, ap, ◌∙◌}
-use mathlib.Core.List.{List, [], ◌∷◌}
-use lib.ListN.{length, take, drop, get_or, length-take, length-drop}
-use lib.Seq.{drop-cons, get_or-take}
+use mathlib.Core.Path.{◌≡◌, sym, ap, ◌∙◌}
+use mathlib.Core.List.{List}
+use lib.ListN.{length, take, drop, drop_of_length-le}
+use Rattle.std.proofs.lemmas.List.{take_min}
 use Rattle.ground.specs.declared.Refusal.{Refusal}
 use Rattle.ground.specs.declared.Refusal.TheVariants.{TooShort, TooLong, WrongLength, NotChunked, NoRoom, OutOfRange, BadOffer, NotAwaited, NotInRack, BadSetUp}
 use Rattle.ground.specs.Refusals.{number_of}
-use Rattle.tally.specs.Checksum.{mixed, mixed_all, verdict_number}
+use Rattle.tally.specs.Checksum.{mixed_all, verdict_number}
 use Rattle.ground.specs.Refusals.{Verdict}
 use Rattle.std.specs.Prelude.{Ok, Err}
 
-none_left : (l : List ℕ) → length l ≡ 0 → l ≡ []
-none_left [] e = refl
-none_left (x ∷ l) e = absurd (omega (arith, e))
-
-module _ (l : List ℕ) (n i mix : ℕ) where
-  pub one_more_in : i < n → i < length l → mixed_all mix (drop i (take n l)) ≡ mixed_all (mixed mix (get_or l i 0)) (drop (i + 1) (take n l))
-  one_more_in h k =
-      let in-part : i < length (take n l) = rw (length-take n l) (omega arith) in
-      rw (add-one i, drop-cons (take n l) i 0 in-part, get_or-take n l i 0 h) refl
-
-  -- past the last byte, what was taken in is the whole message
-  pub all_in : (first : ℕ) → mixed_all first (take n l) ≡ mixed_all mix (drop i (take n l)) → length (take n l) ≤ i → mix ≡ mixed_all first (take n l)
-  all_in first e h = sym (e ∙ ap (mixed_all mix) (none_left (drop i (take n l)) (rw (length-drop i (take n l)) (omega arith))))
+-- past the last byte, what was taken in is the whole message: as many of its bytes as it says, and no more than there are
+pub all_in : (l : List ℕ) (length_of n i mix first : ℕ) → n ≡ min length_of (length l) → mixed_all first (take n l) ≡ mixed_all mix (drop i (take n l)) → length (take n l) ≤ i → mix ≡ mixed_all first (take length_of l)
+all_in l length_of n i mix first m e h =
+    sym (e ∙ ap (mixed_all mix) (drop_of_length-le (take n l) h)) ∙ ap (mixed_all first) (ap (λ (k : ℕ). take k l) m ∙ take_min length_of l)
 
 -- there are ten refusals
 few_refusals : (r : Refusal) → number_of r < 11

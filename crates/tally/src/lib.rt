@@ -90,7 +90,7 @@ fn crc_number(c: Option<HeaderBytes>) -> u32
 fn bit(b: bool) -> u32
     ensures { result ≡ bit b }
 {
-    if b { 1 } else { 0 }
+    b as u32
 }
 
 // The checksum with a number taken in.
@@ -105,13 +105,10 @@ fn mixed(sum: u32, x: u32) -> u32
 fn mixed_packet(sum: u32, m: Packet) -> u32
     ensures { result ≡ mixed_packet sum m }
 {
-    let bytes = m.bytes;
-    let n = m.length as usize;
+    let n = (m.length as usize).min(30);
     let mut mix = mixed(sum, m.length as u32);
-    let mut i: usize = 0;
-    while i < n && i < 30 {
-        mix = mixed(mix, bytes[i] as u32);
-        i += 1;
+    for &b in &m.bytes[..n] {
+        mix = mixed(mix, b as u32);
     }
     mix
 }
@@ -138,7 +135,7 @@ fn checked(sum: u32, port: u8, v: Verdict, a: Actions, state: State, held: u32) 
 pub fn one_more(n: u64) -> u64
     ensures { result ≡ one_more n }
 {
-    if n < u64::MAX { n + 1 } else { u64::MAX }
+    n.saturating_add(1)
 }
 
 fn counted_if(b: bool, n: u64) -> u64
@@ -175,10 +172,10 @@ impl Tally {
         let hard_resets = counted_if(comes_to(State::Hard, before, after), self.hard_resets);
         let checksum = checked(self.checksum, port, v, a, after, held);
         Sums {
-            accepts: accepts,
-            rejects: rejects,
-            hard_resets: hard_resets,
-            checksum: checksum,
+            accepts,
+            rejects,
+            hard_resets,
+            checksum,
         }
     }
 

@@ -1,9 +1,9 @@
 -- `playing::night` meets its contract: what is left of the night, played over what the loop holds, is the whole. Assumes nothing.
 use borrow.Author.Rules.{rules}
-use Prim.Native.Nat.{◌<◌}
+use Prim.Native.Nat.{◌+◌, ◌-◌}
 use native.Mathlib.Omega.{arith}
-use mathlib.Core.Path.{refl, sym, ap, ◌∙◌}
-use lib.ListN.{drop}
+use mathlib.Core.Path.{◌≡◌, refl, sym, ap, ◌∙◌}
+use lib.ListN.{length, drop}
 use Rattle.ground.proofs.Parts.{rest}
 use Rattle.rack.proofs.Loads.{from_one, place_in_slots, long}
 use Rattle.setup.specs.SetUps.{accepted_set_up}
@@ -17,26 +17,26 @@ use Rattle.std.specs.Prelude.{Option}
 use Rattle.std.specs.Prelude.{is_some}
 use Rattle.night.specs.SetUps.{set_up_or_none}
 
-pub loop-left-init : goal.loop-left-init
-loop-left-init c = record { within = search rules; long = search (rules, long) depth 7; small = c.summed-total.ensures.1; sum_is = c.summed-total.ensures.0; rest = refl }
+pub loop-init : goal.loop-init
+loop-init c = let all : length c.args.s.now - 0 ≡ length c.args.s.now = omega arith in record { within = search rules; long = search (rules, long) depth 7; small = c.summed-total.ensures.1; sum_is = c.summed-total.ensures.0; rest = rw all refl }
 
 pub overflow_add-at : goal.overflow_add-at
-overflow_add-at c = omega (arith, event_reaches c.loop-left.invariant c.loop-left-test.true _ (rest c.loop-left.at c.args.s.now) c.next-found.result c.next-found.ensures (sym c.is_event.ensures ∙ c.if-is_event.true), c.size-at.ensures)
+overflow_add-at c = omega (arith, event_reaches c.loop.invariant (omega arith) _ (rest c.loop.at c.args.s.now) c.next-found.result c.next-found.ensures (sym c.is_event.ensures ∙ c.if-is_event.true), c.size-at.ensures)
 
 pub overflow_sub-i : goal.overflow_sub-i
-overflow_sub-i c = from_one (rack_in c.loop-left.slots c.loop-left.count c.loop-left.supply) c.number_in-number.result (sym c.is_in.ensures ∙ c.if-is_in.true)
+overflow_sub-i c = from_one (rack_in c.loop.slots c.loop.count c.loop.supply) c.number_in-number.result (sym c.is_in.ensures ∙ c.if-is_in.true)
 
 pub bounds-slots-i : goal.bounds-slots-i
-bounds-slots-i c = omega (arith, place_in_slots (rack_in c.loop-left.slots c.loop-left.count c.loop-left.supply) c.number_in-number.result (sym c.is_in.ensures ∙ c.if-is_in.true))
+bounds-slots-i c = omega (arith, place_in_slots (rack_in c.loop.slots c.loop.count c.loop.supply) c.number_in-number.result (sym c.is_in.ensures ∙ c.if-is_in.true))
 
 pub overflow_sub-total : goal.overflow_sub-total
-overflow_sub-total c = omega (arith, (can_weigh c.loop-left.invariant c.loop-left-test.true _ (rest c.loop-left.at c.args.s.now) c.next-found.result c.next-found.ensures (sym c.is_event.ensures ∙ c.if-is_event.true) c.number_in-number.result c.number_in-number.ensures (sym c.is_in.ensures ∙ c.if-is_in.true) _ refl _ refl).0, c.load-was.ensures)
+overflow_sub-total c = omega (arith, (can_weigh c.loop.invariant (omega arith) _ (rest c.loop.at c.args.s.now) c.next-found.result c.next-found.ensures (sym c.is_event.ensures ∙ c.if-is_event.true) c.number_in-number.result c.number_in-number.ensures (sym c.is_in.ensures ∙ c.if-is_in.true) _ refl _ refl).0, c.load-was.ensures)
 
 pub bounds-slots-i-then-is_in : goal.bounds-slots-i-then-is_in
-bounds-slots-i-then-is_in c = omega (arith, place_in_slots (rack_in c.loop-left.slots c.loop-left.count c.loop-left.supply) c.number_in-number.result (sym c.is_in.ensures ∙ c.if-is_in.true))
+bounds-slots-i-then-is_in c = omega (arith, place_in_slots (rack_in c.loop.slots c.loop.count c.loop.supply) c.number_in-number.result (sym c.is_in.ensures ∙ c.if-is_in.true))
 
 pub moved-total-requires : goal.moved-total-requires
-moved-total-requires c = rw c.load-was.ensures (can_weigh c.loop-left.invariant c.loop-left-test.true _ (rest c.loop-left.at c.args.s.now) c.next-found.result c.next-found.ensures (sym c.is_event.ensures ∙ c.if-is_event.true) c.number_in-number.result c.number_in-number.ensures (sym c.is_in.ensures ∙ c.if-is_in.true) _ refl _ refl)
+moved-total-requires c = rw c.load-was.ensures (can_weigh c.loop.invariant (omega arith) _ (rest c.loop.at c.args.s.now) c.next-found.result c.next-found.ensures (sym c.is_event.ensures ∙ c.if-is_event.true) c.number_in-number.result c.number_in-number.ensures (sym c.is_in.ensures ∙ c.if-is_in.true) _ refl _ refl)
 
 pub bounds-tally-k : goal.bounds-tally-k
 bounds-tally-k c = omega (arith, c.verdict_number-k.ensures.1)
@@ -44,38 +44,26 @@ bounds-tally-k c = omega (arith, c.verdict_number-k.ensures.1)
 pub bounds-tally-k-then-is_in : goal.bounds-tally-k-then-is_in
 bounds-tally-k-then-is_in c = omega (arith, c.verdict_number-k.ensures.1)
 
-pub loop-left-smaller-then-is_in : goal.loop-left-smaller-then-is_in
-loop-left-smaller-then-is_in c = let h : 0 < c.loop-left.left = c.loop-left-test.true in omega arith
+pub loop-preserved-then-is_in : goal.loop-preserved-then-is_in
+loop-preserved-then-is_in c = let one_fewer : length c.args.s.now - (c.loop.counter + 1) ≡ length c.args.s.now - c.loop.counter - 1 = omega arith in rw (one_fewer, c.size-at.ensures) (present c.loop.invariant (omega arith) _ (rest c.loop.at c.args.s.now) c.next-found.result c.next-found.ensures (sym c.is_event.ensures ∙ c.if-is_event.true) c.number_in-number.result c.number_in-number.ensures (sym c.is_in.ensures ∙ c.if-is_in.true) _ refl _ refl c.stepped-a.result (rw (← c.load-was.ensures) c.stepped-a.ensures) c.port-q.result c.port-q.ensures c.moved-total.result _ (rw (← c.load-was.ensures, ← c.load.ensures) c.moved-total.ensures) (rw (← c.load.ensures) (search rules)) (by_parts _ _ _ _ _ _ _ c.answered-sums.result c.answered-sums.ensures _ c.verdict_number-k.ensures.0 c.one_more.result c.one_more.ensures))
 
-pub loop-left-preserved-then-is_in : goal.loop-left-preserved-then-is_in
-loop-left-preserved-then-is_in c = rw c.size-at.ensures (present c.loop-left.invariant c.loop-left-test.true _ (rest c.loop-left.at c.args.s.now) c.next-found.result c.next-found.ensures (sym c.is_event.ensures ∙ c.if-is_event.true) c.number_in-number.result c.number_in-number.ensures (sym c.is_in.ensures ∙ c.if-is_in.true) _ refl _ refl c.stepped-a.result (rw (← c.load-was.ensures) c.stepped-a.ensures) c.port-q.result c.port-q.ensures c.moved-total.result _ (rw (← c.load-was.ensures, ← c.load.ensures) c.moved-total.ensures) (rw (← c.load.ensures) (search rules)) (by_parts _ _ _ _ _ _ _ c.answered-sums.result c.answered-sums.ensures _ c.verdict_number-k.ensures.0 c.one_more.result c.one_more.ensures))
-
-pub loop-left-smaller-then-is_event : goal.loop-left-smaller-then-is_event
-loop-left-smaller-then-is_event c = let h : 0 < c.loop-left.left = c.loop-left-test.true in omega arith
-
-pub loop-left-preserved-then-is_event : goal.loop-left-preserved-then-is_event
-loop-left-preserved-then-is_event c = rw c.size-at.ensures (absent c.loop-left.invariant c.loop-left-test.true _ (rest c.loop-left.at c.args.s.now) c.next-found.result c.next-found.ensures (sym c.is_event.ensures ∙ c.if-is_event.true) c.number_in-number.result c.number_in-number.ensures (sym c.is_in.ensures ∙ c.if-is_in.false) c.nobody-tally.result c.nobody-tally.ensures)
+pub loop-preserved-then-is_event : goal.loop-preserved-then-is_event
+loop-preserved-then-is_event c = let one_fewer : length c.args.s.now - (c.loop.counter + 1) ≡ length c.args.s.now - c.loop.counter - 1 = omega arith in rw (one_fewer, c.size-at.ensures) (absent c.loop.invariant (omega arith) _ (rest c.loop.at c.args.s.now) c.next-found.result c.next-found.ensures (sym c.is_event.ensures ∙ c.if-is_event.true) c.number_in-number.result c.number_in-number.ensures (sym c.is_in.ensures ∙ c.if-is_in.false) c.nobody-tally.result c.nobody-tally.ensures)
 
 pub overflow_add-at-then-laid : goal.overflow_add-at-then-laid
-overflow_add-at-then-laid c = omega (arith, set_up_reaches c.loop-left.invariant c.loop-left-test.true _ (rest c.loop-left.at c.args.s.now) c.next-found.result c.next-found.ensures (sym c.is_set_up.ensures ∙ c.if-is_set_up.true), c.size-at-then-laid.ensures)
+overflow_add-at-then-laid c = omega (arith, set_up_reaches c.loop.invariant (omega arith) _ (rest c.loop.at c.args.s.now) c.next-found.result c.next-found.ensures (sym c.is_set_up.ensures ∙ c.if-is_set_up.true), c.size-at-then-laid.ensures)
 
-pub loop-left-smaller-then-is_accepted : goal.loop-left-smaller-then-is_accepted
-loop-left-smaller-then-is_accepted c = let h : 0 < c.loop-left.left = c.loop-left-test.true in omega arith
+pub loop-preserved-then-is_accepted : goal.loop-preserved-then-is_accepted
+loop-preserved-then-is_accepted c = let one_fewer : length c.args.s.now - (c.loop.counter + 1) ≡ length c.args.s.now - c.loop.counter - 1 = omega arith in rw (one_fewer, c.size-at-then-laid.ensures) (accepted_set_up_lem c.loop.invariant (omega arith) _ (rest c.loop.at c.args.s.now) c.next-found.result c.next-found.ensures (sym c.is_set_up.ensures ∙ c.if-is_set_up.true) (ap (λ (x : Option SetUp). is_some x) (sym c.set_up-laid.ensures) ∙ c.if-laid.true) c.set_up-started.result (c.set_up-started.ensures ∙ ap (λ (x : Option SetUp). accepted_set_up (set_up_or_none x)) c.set_up-laid.ensures) c.set_up_told-tally.result c.set_up_told-tally.ensures (sym c.is_accepted.ensures ∙ c.if-is_accepted.true) c.summed-total-then-is_accepted.result (search (rules, long) depth 7) c.summed-total-then-is_accepted.ensures)
 
-pub loop-left-preserved-then-is_accepted : goal.loop-left-preserved-then-is_accepted
-loop-left-preserved-then-is_accepted c = rw c.size-at-then-laid.ensures (accepted_set_up_lem c.loop-left.invariant c.loop-left-test.true _ (rest c.loop-left.at c.args.s.now) c.next-found.result c.next-found.ensures (sym c.is_set_up.ensures ∙ c.if-is_set_up.true) (ap (λ (x : Option SetUp). is_some x) (sym c.set_up-laid.ensures) ∙ c.if-laid.true) c.set_up-started.result (c.set_up-started.ensures ∙ ap (λ (x : Option SetUp). accepted_set_up (set_up_or_none x)) c.set_up-laid.ensures) c.set_up_told-tally.result c.set_up_told-tally.ensures (sym c.is_accepted.ensures ∙ c.if-is_accepted.true) c.summed-total-then-is_accepted.result (search (rules, long) depth 7) c.summed-total-then-is_accepted.ensures)
-
-pub loop-left-smaller : goal.loop-left-smaller
-loop-left-smaller c = let h : 0 < c.loop-left.left = c.loop-left-test.true in omega arith
-
-pub loop-left-preserved : goal.loop-left-preserved
-loop-left-preserved c = rw c.size-at-then-laid.ensures (refused_set_up c.loop-left.invariant c.loop-left-test.true _ (rest c.loop-left.at c.args.s.now) c.next-found.result c.next-found.ensures (sym c.is_set_up.ensures ∙ c.if-is_set_up.true) (ap (λ (x : Option SetUp). is_some x) (sym c.set_up-laid.ensures) ∙ c.if-laid.true) c.set_up-started.result (c.set_up-started.ensures ∙ ap (λ (x : Option SetUp). accepted_set_up (set_up_or_none x)) c.set_up-laid.ensures) c.set_up_told-tally.result c.set_up_told-tally.ensures (sym c.is_accepted.ensures ∙ c.if-is_accepted.false))
+pub loop-preserved : goal.loop-preserved
+loop-preserved c = let one_fewer : length c.args.s.now - (c.loop.counter + 1) ≡ length c.args.s.now - c.loop.counter - 1 = omega arith in rw (one_fewer, c.size-at-then-laid.ensures) (refused_set_up c.loop.invariant (omega arith) _ (rest c.loop.at c.args.s.now) c.next-found.result c.next-found.ensures (sym c.is_set_up.ensures ∙ c.if-is_set_up.true) (ap (λ (x : Option SetUp). is_some x) (sym c.set_up-laid.ensures) ∙ c.if-laid.true) c.set_up-started.result (c.set_up-started.ensures ∙ ap (λ (x : Option SetUp). accepted_set_up (set_up_or_none x)) c.set_up-laid.ensures) c.set_up_told-tally.result c.set_up_told-tally.ensures (sym c.is_accepted.ensures ∙ c.if-is_accepted.false))
 
 pub returns-then-is_set_up : goal.returns-then-is_set_up
-returns-then-is_set_up c = c.held.ensures ∙ stops_unlaid c.loop-left.invariant c.loop-left-test.true _ (rest c.loop-left.at c.args.s.now) c.next-found.result c.next-found.ensures (sym c.is_set_up.ensures ∙ c.if-is_set_up.true) (ap (λ (x : Option SetUp). is_some x) (sym c.set_up-laid.ensures) ∙ c.if-laid.false)
+returns-then-is_set_up c = c.held.ensures ∙ stops_unlaid c.loop.invariant (omega arith) _ (rest c.loop.at c.args.s.now) c.next-found.result c.next-found.ensures (sym c.is_set_up.ensures ∙ c.if-is_set_up.true) (ap (λ (x : Option SetUp). is_some x) (sym c.set_up-laid.ensures) ∙ c.if-laid.false)
 
-pub returns-in-loop-left : goal.returns-in-loop-left
-returns-in-loop-left c = c.held-in-loop-left.ensures ∙ stops_unread c.loop-left.invariant c.loop-left-test.true _ (rest c.loop-left.at c.args.s.now) c.next-found.result c.next-found.ensures (sym c.is_event.ensures ∙ c.if-is_event.false) (sym c.is_set_up.ensures ∙ c.if-is_set_up.false)
+pub returns-in-loop : goal.returns-in-loop
+returns-in-loop c = c.held-in-loop.ensures ∙ stops_unread c.loop.invariant (omega arith) _ (rest c.loop.at c.args.s.now) c.next-found.result c.next-found.ensures (sym c.is_event.ensures ∙ c.if-is_event.false) (sym c.is_set_up.ensures ∙ c.if-is_set_up.false)
 
 pub returns : goal.returns
-returns c = c.held-2.ensures ∙ sym (c.loop-left.invariant.rest ∙ none_left c.loop-left.left (held_by c.loop-left.slots c.loop-left.count c.loop-left.supply c.loop-left.tally c.loop-left.at) (drop c.loop-left.at c.args.s.now) c.loop-left-test.false)
+returns c = c.held-2.ensures ∙ sym (c.loop.invariant.rest ∙ none_left (length c.args.s.now - c.loop.counter) (held_by c.loop.slots c.loop.count c.loop.supply c.loop.tally c.loop.at) (drop c.loop.at c.args.s.now) (omega arith))

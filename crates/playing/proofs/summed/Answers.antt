@@ -1,25 +1,17 @@
 -- `playing::summed` meets its contract: the loop has the load of the ports passed. Assumes nothing.
-use borrow.Author.Rules.{rules}
+use Rattle.std.proofs.Common.{rules}
 use native.Mathlib.Omega.{arith}
-use native.Mathlib.Nat.{not-suc-le-zero}
-use mathlib.Core.Path.{refl}
-use Rattle.rack.proofs.Loads.{load_all}
-use Rattle.playing.proofs.Sums.{more, small_more}
+use mathlib.Core.Path.{◌≡◌}
+use lib.ListN.{length}
+use Rattle.rack.specs.Ports.{most_ports}
+use Rattle.rack.proofs.Loads.{load_all, long}
 use Rattle.playing.proofs.summed.Goals as goal
-
-pub loop-i-init : goal.loop-i-init
-loop-i-init c = (omega arith, refl, omega arith, λ k h. absurd (not-suc-le-zero h))
-
-pub loop-i-preserved : goal.loop-i-preserved
-loop-i-preserved c =
-    let q = c.loop-i in
-    let r = c.args.r in
-    (omega arith, more r q.total q.i q.invariant.1 q.invariant.3 c.load.result c.load.ensures, omega arith, small_more r q.total q.i q.invariant.1 q.invariant.3 c.load.result c.load.ensures (search rules))
 
 pub returns : goal.returns
 returns c =
-    let q = c.loop-i in
-    let r = c.args.r in (
-      load_all r q.total q.i q.invariant.1 c.ports-n.result c.ports-n.ensures q.invariant.0 c.loop-i-test.false,
-      λ k h. q.invariant.3 k (omega (arith, c.ports-n.ensures, c.loop-i-test.false, h)),
+    let q = c.loop-s in
+    let r = c.args.r in
+    let n : length r.slots ≡ most_ports = search (rules, long) depth 7 in (
+      load_all r q.total q.s-index q.invariant.0 c.ports.result c.ports.ensures (omega (arith, n)) (omega (arith, n)),
+      λ k h. q.invariant.2 k (omega (arith, n, c.ports.ensures, h)),
     )

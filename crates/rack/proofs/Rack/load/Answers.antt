@@ -1,12 +1,14 @@
 -- `rack::Rack::load` meets its contract: the loop has the load of the ports passed. Assumes nothing.
+use Rattle.std.proofs.Common.{rules}
 use native.Mathlib.Omega.{arith}
-use Rattle.rack.proofs.Loads.{load_more, load_all}
+use mathlib.Core.Path.{◌≡◌}
+use lib.ListN.{length}
+use Rattle.rack.specs.Ports.{most_ports}
+use Rattle.rack.proofs.Loads.{load_all, long}
 use Rattle.rack.proofs.Rack.load.Goals as goal
 
-pub loop-i-preserved : goal.loop-i-preserved
-loop-i-preserved c =
-    let q = c.loop-i in
-    (omega arith, load_more c.args.self q.total q.i q.invariant.1 c.load.result c.load.ensures, omega arith)
-
 pub returns : goal.returns
-returns c = let q = c.loop-i in load_all c.args.self q.total q.i q.invariant.1 c.ports-n.result c.ports-n.ensures q.invariant.0 c.loop-i-test.false
+returns c =
+    let q = c.loop-s in
+    let n : length c.args.self.slots ≡ most_ports = search (rules, long) depth 7 in
+    load_all c.args.self q.total q.s-index q.invariant.0 c.ports.result c.ports.ensures (omega (arith, n)) (omega (arith, n))

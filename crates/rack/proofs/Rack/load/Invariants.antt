@@ -1,12 +1,9 @@
 -- `rack::Rack::load` meets its contract: the loop has the load of the ports passed. Assumes nothing.
-use Prim.Native.Nat.{◌≤◌, ◌*◌, ◌-◌}
+use Prim.Native.Nat.{◌≤◌, ◌*◌}
 use mathlib.Core.Path.{◌≡◌}
 use Rattle.slot.specs.Load.{load_of}
 use Rattle.rack.specs.Ports.{at, total}
 use Rattle.rack.proofs.Rack.load.Given as goal
 
-abbrev pub invariant-loop-i : goal.invariant-loop-i
-invariant-loop-i l = (l.i ≤ l.n) × (l.total ≡ total (λ k. load_of (at l.self k)) l.i) × (l.total ≤ l.i * 4294967295)
-
-abbrev pub decreases-loop-i : goal.decreases-loop-i
-decreases-loop-i l = l.n - l.i
+abbrev pub invariant-loop-s : goal.invariant-loop-s
+invariant-loop-s l = (l.total ≡ total (λ k. load_of (at l.fn.self k)) l.s-index) × (l.total ≤ l.s-index * 4294967295)
