@@ -1,3 +1,4 @@
+pub mod ThenSome
 pub mod Through
 pub mod PortAlone
 pub mod NothingLoose

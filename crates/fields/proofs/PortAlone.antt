@@ -11,8 +11,7 @@ use Rattle.ground.proofs.Rows.{first, second}
 use Rattle.slot.specs.declared.Slot.{Slot}
 use Rattle.slot.specs.Answers.{has_asked, settled}
 use Rattle.std.specs.Prelude.{Option, Some}
-use Rattle.std.specs.Bool.{then_some}
-use Rattle.std.proofs.lemmas.Option.{none-some, same_Some}
+use Rattle.std.proofs.lemmas.Option.{none-some}
 use Rattle.rack.specs.declared.Rack.{Rack}
 use Rattle.rack.specs.Ports.{most_ports, at, in_rack, place_of}
 use Rattle.rack.specs.Steps.{Happening, event, packet, new_offer, own_answer, answer_at, turned, step}
@@ -24,6 +23,7 @@ use Rattle.fields.specs.declared.Field.{Field}
 use Rattle.fields.specs.declared.alone.Alone.{Alone}
 use Rattle.fields.specs.Answers.{event_field, field_by, field_of}
 use Rattle.fields.specs.PortAlone.{answered_alone, own_to, alone_by, alone_of}
+use Rattle.fields.proofs.ThenSome.{is_there}
 use Rattle.fields.proofs.Through.{Going, reaches, goes_on}
 
 -- the rack with another port at a place
@@ -33,11 +33,6 @@ with r i t = record { slots = set r.slots i t; count = r.count; supply = r.suppl
 -- the field that such an answer is
 abbrev field_with : Found → Rack → ℕ → Alone → Field
 field_with found r i x = record { found = found; verdict = x.verdict; actions = x.actions; rack = with r i x.slot; size = x.size }
-
--- an answer that is there: it is that one, under that condition
-settled_by : {A : Type 0} (b : Bool) (y x : A) → then_some b y ≡ Some x → (b ≡ true) × (y ≡ x)
-settled_by true y x e = (refl, same_Some y x e)
-settled_by false y x e = absurd (none-some x e)
 
 module _ (r : Rack) (number : ℕ) (here : in_rack r number ≡ true) where
   -- nobody is asked, and so the port's own answer is the rack's
@@ -49,7 +44,7 @@ module _ (r : Rack) (number : ℕ) (here : in_rack r number ≡ true) where
       event_field found (step r n h) size ≡ field_with found r (place_of number) x
   an_event found n size h x e =
       let asked : Bool = has_asked (at r (place_of number)).port (own_answer r (place_of number) h).port in
-      let (settled, answer) = settled_by (eqb n number && not asked) _ x e in
+      let (settled, answer) = is_there (eqb n number && not asked) _ x e in
       let this : n ≡ number = eqb-true n number (first (eqb n number) (not asked) settled) in
       let none : asked ≡ false = not-true asked (second (eqb n number) (not asked) settled) in
       ap (λ (k : ℕ). event_field found (step r k h) size) this
