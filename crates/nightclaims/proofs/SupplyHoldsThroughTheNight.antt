@@ -118,7 +118,7 @@ event_stands : (r : Rack) (number : ℕ) (h : Happening) → Stands r → Stands
 event_stands r number h (none_yet e) = unfold step in by_number r e number h (in_rack r number) refl
 event_stands r number h (led_to_lem u good k) = led_to_lem u good (step_reached u good r k number h)
 
-by_goodness : (r : Rack) (u : SetUp) (b : Bool) → good_set_up u ≡ b → Stands r → Stands (rack_after (judged b u).verdict (judged b u).rack r)
+by_goodness : (r : Rack) (u : SetUp) (b : Bool) → good_set_up u ≡ b → Stands r → Stands (rack_after (verdict_of (judged b u)) (rack_or_none (judged b u)) r)
 by_goodness r u true e k = led_to_lem u e (reached_first u e)
 by_goodness r u false e k = k
 
