@@ -21,10 +21,10 @@ use Rattle.rack.specs.Steps.{Happening, event, packet, new_offer, own_answer, an
 use Rattle.demands.specs.Ours.{ours}
 use Rattle.demands.specs.Fitting.{both_compared, is_request, judged_by, read_by, own_by, mismatch_in, sets_mismatch}
 use Rattle.demands.specs.WrongPrograms.{hears_no_mismatch}
-use Rattle.reading.specs.Reading.{message_with}
 use Rattle.std.specs.Prelude.{Err, Result}
 use Rattle.reading.specs.declared.Message.{Message}
 use Rattle.ground.specs.declared.Refusal.{Refusal}
+use Rattle.std.specs.Prelude.{Ok}
 
 -- ---- one Request, one packet, one event
 fit_as_before : (request : Bool) (count r : ℕ) (o : Offer) → (request && is_mismatch r) ≡ false → judged_by both_compared request count r o ≡ fit_of count r o
@@ -33,8 +33,8 @@ fit_as_before true count r o clear = ap (λ b. judged b (asked r o)) (sym (clear
 fit_as_before false count r o clear = refl
 
 packet_as_before : (p : Port) (s : List ℕ) (x : Result Message Refusal) → mismatch_in x s ≡ false → read_by both_compared x p s ≡ read_to x p s
-packet_as_before p s (message_with objects f) clear =
-    ap (message_of p objects f) (fit_as_before (is_request (meaning_in objects f)) objects (first_object (part_of s)) p.last clear)
+packet_as_before p s (Ok m) clear =
+    ap (message_of p m.objects m.fields) (fit_as_before (is_request (meaning_in m.objects m.fields)) m.objects (first_object (part_of s)) p.last clear)
 packet_as_before p s (Err no') clear = refl
 
 own_as_before : (r : Rack) (i : ℕ) (h : Happening) → sets_mismatch h ≡ false → own_by both_compared r i h ≡ own_answer r i h

@@ -50,7 +50,7 @@ alike r [] few = tt
 alike r (e ∷ es) few =
     (answers_as_before r e.number e.happening few, alike (ours.step r e.number e.happening).rack es (subst (λ (n : ℕ). n ≤ 8) (sym (count_stays r e.number e.happening)) few))
 
-started_with : (good : Bool) (u : SetUp) → u.count ≤ 8 → (judged good u).rack.count ≤ 8
+started_with : (good : Bool) (u : SetUp) → u.count ≤ 8 → (rack_or_none (judged good u)).count ≤ 8
 started_with true u few = few
 started_with false u few = omega arith
 
@@ -59,7 +59,7 @@ pub nights_as_before : (u : SetUp) (es : List Happens) → u.count ≤ 8 → u.s
     (rack_now stays_at_eight_ports u es ≡ rack_now ours u es) × (history stays_at_eight_ports u es ≡ history ours u es)
 unfolding accepted_set_up
 nights_as_before u es few small =
-    let same = ap (λ s. s.rack) (set_up_as_before u few small) in
+    let same = ap rack_or_none (set_up_as_before u few small) in
     let rest = lead_alike stays_at_eight_ports.step ours.step (rack_or_none (ours.accepted_set_up u)) es (alike (rack_or_none (ours.accepted_set_up u)) es (started_with (good_set_up u) u few)) in (
       ap (λ (r : Rack). run_by stays_at_eight_ports.step r es) same ∙ rest.0,
       ap (λ (r : Rack). history_by stays_at_eight_ports.step r es) same ∙ rest.1,

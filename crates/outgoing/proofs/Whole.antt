@@ -48,7 +48,7 @@ never : {A : Type 0} → suc 0 ≤ 0 → A
 never h = absurd (not-suc-le-zero h)
 
 -- seven objects one by one are the row
-seven_are : (l : List ℕ) → length l ≡ 7 → seven l ≡ l
+pub seven_are : (l : List ℕ) → length l ≡ 7 → seven l ≡ l
 seven_are [] h = never (omega arith)
 seven_are (a ∷ []) h = never (omega arith)
 seven_are (a ∷ (b ∷ [])) h = never (omega arith)

@@ -37,36 +37,19 @@ pub fn control(message_type: u8, message_id: u8) -> Packet
     }
 }
 
-// An object laid into a packet from a place on, least byte first.
-fn with_object(packet: [u8; 30], at: usize, object: u32) -> [u8; 30]
-    requires { at + 4 ≤ 30 }
-    ensures { result ≡ set (set (set (set packet at (object % 256)) (at + 1) (object / 256 % 256)) (at + 2) (object / 65536 % 256)) (at + 3) (object / 16777216 % 256) }
-{
-    let mut bytes = packet;
-    bytes[at] = (object % 256) as u8;
-    bytes[at + 1] = (object / 256 % 256) as u8;
-    bytes[at + 2] = (object / 65536 % 256) as u8;
-    bytes[at + 3] = (object / 16777216 % 256) as u8;
-    bytes
-}
-
 // A data message of ours with the first so many of seven objects.
 pub fn with_objects(message_type: u8, message_id: u8, objects: Objects, count: u8) -> Packet
     ensures { result ≡ data_of message_type message_id objects count }
 {
     let h = header_bytes(our_fields(message_type, message_id), count);
-    let mut begun = [0u8; 30];
-    begun[0] = h[0];
-    begun[1] = h[1];
-    let one = with_object(begun, 2, objects[0]);
-    let two = with_object(one, 6, objects[1]);
-    let three = with_object(two, 10, objects[2]);
-    let four = with_object(three, 14, objects[3]);
-    let five = with_object(four, 18, objects[4]);
-    let six = with_object(five, 22, objects[5]);
-    let seven = with_object(six, 26, objects[6]);
+    let mut bytes = [0u8; 30];
+    bytes[..2].copy_from_slice(&h);
+    for (i, object) in objects.iter().enumerate() {
+        let at = 2 + 4 * i;
+        bytes[at..at + 4].copy_from_slice(&object.to_le_bytes());
+    }
     Packet {
-        bytes: seven,
+        bytes,
         length: 2 + 4 * (count % 8),
     }
 }

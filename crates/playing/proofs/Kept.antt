@@ -28,16 +28,16 @@ use Rattle.night.specs.SetUps.{set_up_in}
 use Rattle.tally.specs.declared.Tally.{Tally}
 use Rattle.tally.specs.Counts.{told, set_up_told}
 use Rattle.playing.specs.declared.Played.{Played}
-use Rattle.playing.specs.Nights.{begun, answered, event_done, rack_after, is_accepted, set_up_done, field_done, is_readable, night_in, is_event, is_set_up, number_in, happening_in, stepped_by}
+use Rattle.playing.specs.Nights.{begun, answered, event_done, rack_after, set_up_done, field_done, is_readable, night_in, is_event, is_set_up, number_in, happening_in, stepped_by}
 use Rattle.playing.specs.Meeting.{held_by, Small}
 use Rattle.playing.proofs.Sums.{rack_in, weighs, small_still, sum_still}
-use Rattle.ground.specs.Refusals.{Verdict}
 use Rattle.std.specs.Prelude.{Ok, Err}
 use Rattle.setup.specs.SetUps.{verdict_of}
 use Rattle.std.specs.Prelude.{is_some, Result}
-use Rattle.night.specs.SetUps.{set_up_or_none}
 use Rattle.ground.specs.declared.Refusal.{Refusal}
 use Rattle.setup.specs.SetUps.{rack_or_none}
+use Rattle.setup.specs.declared.SetUp.{SetUp}
+use Rattle.std.specs.Prelude.{Some}
 
 -- ---- one field of the definition
 read_on : (n : ℕ) (p : Played) (l : List ℕ) → 0 < n → is_readable (next_of l) l ≡ true → night_in n p l ≡ night_in (n - 1) (field_done (next_of l) p l) (drop (size_of l) l)
@@ -234,25 +234,18 @@ module _ {r : Rack} {t : Tally} {s : List ℕ} {slots : List Slot} {count supply
           rw isq (stepped a isa sum' tally' (subst (λ (p : Port). sum' ≡ sum - load_of slot + load_of (u p)) isq issum) (subst (λ (p : Port). load_of (u p) < 4294967296) isq light) istally)
 
   -- a set-up that is laid out as it must be
-  module _ (e : is_set_up found ≡ true) (whole : is_some (set_up_in f) ≡ true) (started : Result Rack Refusal) (isstarted : started ≡ accepted_set_up (set_up_or_none (set_up_in f))) (tally' : Tally) (istally : tally' ≡ set_up_told tally (verdict_of started)) where
+  module _ (e : is_set_up found ≡ true) (u : SetUp) (is_laid : set_up_in f ≡ Some u) where
     laid : is_readable found f ≡ true
-    laid = rw (is_set_up_lem found e) whole
+    laid = rw (is_set_up_lem found e, is_laid) refl
 
-    set_up_there : (v : Verdict) → verdict_of started ≡ v → field_done found (held_by slots count supply tally place) f ≡ record { rack = rack_after v (rack_or_none started) (rack_in slots count supply); tally = tally'; at = place + size_of f }
+    set_up_there : (started : Result Rack Refusal) → accepted_set_up u ≡ started → (tally' : Tally) → tally' ≡ set_up_told tally (verdict_of started) →
+        field_done found (held_by slots count supply tally place) f ≡ record { rack = rack_after (verdict_of started) (rack_or_none started) (rack_in slots count supply); tally = tally'; at = place + size_of f }
     unfolding set_up_done
-    set_up_there v q = rw (is_set_up_lem found e, ← isstarted, ← istally, ← q) refl
+    set_up_there started isstarted tally' istally = rw (is_set_up_lem found e, is_laid, isstarted, istally) refl
 
-    pub refused_set_up : is_accepted (verdict_of started) ≡ false → Kept r t s slots count supply sum tally' (place + size_of f) (left - 1)
-    refused_set_up n = by_verdict_lem (verdict_of started) refl n
-      where
-        by_verdict_lem : (v : Verdict) → verdict_of started ≡ v → is_accepted v ≡ false → Kept r t s slots count supply sum tally' (place + size_of f) (left - 1)
-        by_verdict_lem (Ok _) q n = true_not_false n
-        by_verdict_lem (Err x) q n = goes_on laid (set_up_reaches e) slots count supply sum tally' (set_up_there (Err x) q) inv.long inv.small inv.sum_is
+    pub refused_set_up : (no' : Refusal) → accepted_set_up u ≡ Err no' → (tally' : Tally) → tally' ≡ set_up_told tally (Err no') → Kept r t s slots count supply sum tally' (place + size_of f) (left - 1)
+    refused_set_up no' bad tally' istally = goes_on laid (set_up_reaches e) slots count supply sum tally' (set_up_there (Err no') bad tally' istally) inv.long inv.small inv.sum_is
 
-    pub accepted_set_up_lem : is_accepted (verdict_of started) ≡ true → (sum' : ℕ) → length (rack_or_none started).slots ≡ most_ports → (sum' ≡ loads (rack_or_none started)) × Small (rack_or_none started) →
-        Kept r t s (rack_or_none started).slots (rack_or_none started).count (rack_or_none started).supply sum' tally' (place + size_of f) (left - 1)
-    accepted_set_up_lem n sum' l m = by_verdict_lem (verdict_of started) refl n
-      where
-        by_verdict_lem : (v : Verdict) → verdict_of started ≡ v → is_accepted v ≡ true → Kept r t s (rack_or_none started).slots (rack_or_none started).count (rack_or_none started).supply sum' tally' (place + size_of f) (left - 1)
-        by_verdict_lem (Ok _) q n = goes_on laid (set_up_reaches e) (rack_or_none started).slots (rack_or_none started).count (rack_or_none started).supply sum' tally' (set_up_there (Ok tt) q) l m.1 m.0
-        by_verdict_lem (Err x) q n = true_not_false (sym n)
+    pub accepted_set_up_lem : (new : Rack) → accepted_set_up u ≡ Ok new → (tally' : Tally) → tally' ≡ set_up_told tally (Ok tt) → (sum' : ℕ) → length new.slots ≡ most_ports → (sum' ≡ loads new) × Small new →
+        Kept r t s new.slots new.count new.supply sum' tally' (place + size_of f) (left - 1)
+    accepted_set_up_lem new good tally' istally sum' l m = goes_on laid (set_up_reaches e) new.slots new.count new.supply sum' tally' (set_up_there (Ok new) good tally' istally) l m.1 m.0

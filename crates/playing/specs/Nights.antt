@@ -25,6 +25,7 @@ use Rattle.std.specs.Prelude.{Ok, Err}
 use Rattle.std.specs.Prelude.{is_some, Result}
 use Rattle.night.specs.SetUps.{set_up_or_none}
 use Rattle.ground.specs.declared.Refusal.{Refusal}
+use Rattle.setup.specs.SetUps.{verdict_of, rack_or_none}
 
 -- nothing has been played
 abbrev pub begun : Rack → Tally → Played
@@ -52,12 +53,8 @@ abbrev pub rack_after : Verdict → Rack → Rack → Rack
 rack_after (Ok _) new old = new
 rack_after (Err r) new old = old
 
-abbrev pub is_accepted : Verdict → Bool
-is_accepted (Ok _) = true
-is_accepted (Err r) = false
-
 unfoldable pub set_up_done : Played → Result Rack Refusal → ℕ → Played
-set_up_done p s size = record { rack = rack_after s.verdict s.rack p.rack; tally = set_up_told p.tally s.verdict; at = p.at + size }
+set_up_done p s size = record { rack = rack_after (verdict_of s) (rack_or_none s) p.rack; tally = set_up_told p.tally (verdict_of s); at = p.at + size }
 
 abbrev pub field_done : Found → Played → List ℕ → Played
 field_done Found.Cut p l = p
@@ -73,7 +70,7 @@ abbrev pub is_readable : Found → List ℕ → Bool
 is_readable Found.Cut l = false
 is_readable Found.UnknownTag l = false
 is_readable Found.WrongLength l = false
-is_readable Found.SetUp l = (is_some (set_up_in l))
+is_readable Found.SetUp l = is_some (set_up_in l)
 is_readable (Found.Event number e) l = true
 is_readable (Found.Packet number) l = true
 is_readable (Found.NewOffer number) l = true

@@ -9,8 +9,9 @@ use power::Power;
 fn offer(o: Offer) -> Offer
     ensures { result ≡ o }
 {
+    let objects = o.objects;
     Offer {
-        objects: o.objects,
+        objects,
         count: o.count,
     }
 }

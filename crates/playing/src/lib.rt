@@ -9,7 +9,7 @@ ghost use Rattle.source.specs.declared.State.{State};
 ghost use Rattle.port.specs.Memory.{state_of, no_actions};
 ghost use Rattle.rack.specs.Ports.{most_ports, loads};
 ghost use Rattle.tally.specs.Counts.{told, sums_of};
-ghost use Rattle.playing.specs.Nights.{begun, is_accepted, night_in};
+ghost use Rattle.playing.specs.Nights.{begun, night_in};
 ghost use Rattle.playing.specs.Meeting.{held_by, Small};
 
 use ground::Refusal;

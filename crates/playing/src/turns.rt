@@ -12,7 +12,10 @@ use slot::Slot;
 pub(crate) fn is_event(found: Found) -> bool
     ensures { result ≡ is_event found }
 {
-    matches!(found, Found::Event(_, _) | Found::Packet(_) | Found::NewOffer(_))
+    matches!(
+        found,
+        Found::Event(_, _) | Found::Packet(_) | Found::NewOffer(_)
+    )
 }
 
 pub(crate) fn is_set_up(found: Found) -> bool

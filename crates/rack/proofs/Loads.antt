@@ -1,7 +1,7 @@
 -- What all ports of a rack take of its supply, and what the others take. Assumes nothing.
 use Prim.Native.Nat.{ℕ, ◌+◌, ◌-◌, ◌<◌, ◌≤◌}
 use native.Mathlib.Omega.{arith}
-use mathlib.Core.Path.{◌≡◌, refl, sym, ap, ◌∙◌}
+use mathlib.Core.Path.{◌≡◌, sym, ap, ◌∙◌}
 use mathlib.Core.Bool.{true}
 use mathlib.Core.List.{List, map}
 use lib.Dec.{leb}
@@ -12,7 +12,7 @@ use Rattle.slot.specs.declared.Slot.{Slot}
 use Rattle.slot.specs.Load.{load_of}
 use Rattle.rack.specs.declared.Rack.{Rack}
 use Rattle.rack.specs.Ports.{most_ports, at, ports_in, in_rack, place_of, total, loads, others}
-use Rattle.rack.proofs.Totals.{total_more, total_without}
+use Rattle.rack.proofs.Totals.{total_without}
 
 -- ---- a number that is in the rack
 module _ (r : Rack) (number : ℕ) (h : in_rack r number ≡ true) where
@@ -30,9 +30,6 @@ module _ (r : Rack) (number : ℕ) (h : in_rack r number ≡ true) where
 
 -- ---- summing them up
 module _ (r : Rack) (sum : ℕ) (i : ℕ) (passed : sum ≡ total (λ k. load_of (at r k)) i) where
-  pub load_more : (load : ℕ) → load ≡ load_of (at r i) → sum + load ≡ total (λ k. load_of (at r k)) (i + 1)
-  load_more load e = rw (total_more (λ k. load_of (at r k)) i, e, passed) refl
-
   pub load_all : (n : ℕ) → n ≡ ports_in r → i ≤ n → n ≤ i → sum ≡ loads r
   unfolding loads
   load_all n e h l = let all : i ≡ ports_in r = omega (arith, e, h, l) in passed ∙ ap (total (λ k. load_of (at r k))) all

@@ -35,7 +35,7 @@ made f (x ∷ l) (suc i) d b h = made f l i d b (le_of_suc-le-suc h)
 
 -- a set-up that is accepted is good, and sets up its rack
 module _ (u : SetUp) where
-  by_test : (b : Bool) → good_set_up u ≡ b → (judged b u).verdict ≡ Ok tt → good_set_up u ≡ true
+  by_test : (b : Bool) → good_set_up u ≡ b → verdict_of (judged b u) ≡ Ok tt → good_set_up u ≡ true
   by_test true e f = e
   by_test false e f = cc
 

@@ -148,8 +148,8 @@ module _ (p : Port) where
   no_accept : (s : List ℕ) (r : Result Message Refusal) → read_of s ≡ r → (is_request r && is_accept (on_wire (Port.step p (Port.packet s)).actions.transmit)) ≡ false
   no_accept s (Ok m) e = by_meant (meaning_in m.objects m.fields) refl
     where
-      by_meant : (m : Meaning) → meaning_in n f ≡ m → (means_request m && is_accept (on_wire (Port.step p (Port.packet s)).actions.transmit)) ≡ false
-      by_meant Meaning.Request g = own_request p s n f e g
+      by_meant : (x : Meaning) → meaning_in m.objects m.fields ≡ x → (means_request x && is_accept (on_wire (Port.step p (Port.packet s)).actions.transmit)) ≡ false
+      by_meant Meaning.Request g = own_request p s m.objects m.fields e g
       by_meant Meaning.Unsupported g = refl
       by_meant Meaning.GoodCrc g = refl
       by_meant Meaning.Reply g = refl

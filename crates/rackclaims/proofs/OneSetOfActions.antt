@@ -5,8 +5,6 @@ use mathlib.Core.Bool.{Bool, true, false}
 use mathlib.Core.List.{List}
 use Prim.Native.Nat.{ℕ}
 use Rattle.outgoing.specs.Packets.{no_packet}
-use Rattle.source.specs.declared.Timer.{Timer}
-use Rattle.port.specs.declared.Supply.{Supply}
 use Rattle.port.specs.declared.Port.{Port}
 use Rattle.port.specs.declared.Answer.{Answer}
 use Rattle.port.specs.Memory.{no_crc}

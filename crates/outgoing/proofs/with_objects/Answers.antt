@@ -1,27 +1,23 @@
--- header and objects, laid one behind the other, stand one behind the other
-use Prim.Native.Nat.{ℕ, ◌+◌, ◌/◌, ◌%◌}
-use mathlib.Core.Path.{◌≡◌, refl, ◌∙◌}
-use mathlib.Core.List.{List, [], ◌∷◌, ◌++◌}
-use lib.ListN.{get_or, set, replicate}
-use Rattle.message.specs.Bytes.{two_bytes}
-use Rattle.outgoing.specs.declared.Packet.{Packet}
-use Rattle.outgoing.specs.Packets.{data_of, object_bytes}
+-- `outgoing::with_objects` meets its contract: the header and the objects passed stand one behind the other. Assumes nothing.
+use borrow.Author.Rules.{rules}
+use native.Mathlib.Omega.{arith}
+use mathlib.Core.Path.{◌≡◌, ◌∙◌}
+use lib.ListN.{length, get_or}
+use borrow.Rule.Slice.PartMut.{same_len_mid}
+use Rattle.outgoing.specs.Packets.{data_of, four_bytes}
+use Rattle.outgoing.proofs.Laid.{laid_more, laid_all}
 use Rattle.outgoing.proofs.with_objects.Goals as goal
 
-abbrev packet : List ℕ → ℕ → Packet
-packet b k = record { bytes = b; length = k }
-
-abbrev begun : List ℕ → List ℕ
-begun h = set (set (replicate 30 0) 0 (get_or h 0 0)) 1 (get_or h 1 0)
-
-abbrev object : List ℕ → ℕ → ℕ → List ℕ
-object l at x = set (set (set (set l at (x % 256)) (at + 1) (x / 256 % 256)) (at + 2) (x / 65536 % 256)) (at + 3) (x / 16777216 % 256)
-
-module _ (w p q r s t u v k : ℕ) (h one two three four five six seven : List ℕ) where
-  laid : h ≡ two_bytes w → one ≡ object (begun h) 2 p → two ≡ object one 6 q → three ≡ object two 10 r → four ≡ object three 14 s → five ≡ object four 18 t → six ≡ object five 22 u → seven ≡ object six 26 v →
-      packet seven k ≡ packet (two_bytes w ++ object_bytes (p ∷ (q ∷ (r ∷ (s ∷ (t ∷ (u ∷ (v ∷ [])))))))) k
-  laid e a b c d f g i = rw (i, g, f, d, c, b, a, e) refl
+pub loop-i-preserved : goal.loop-i-preserved
+loop-i-preserved c =
+    let q = c.loop-i in
+    let n : length c.args.objects ≡ 7 = search rules in
+    let object : c.copy_from_slice-in-loop-i.new.self ≡ four_bytes (get_or c.args.objects q.i 0) = c.copy_from_slice-in-loop-i.ensures.after ∙ c.to_le_bytes.ensures in
+    (same_len_mid _ _ q.bytes _ c.copy_from_slice-in-loop-i.ensures.len ∙ q.invariant.0, laid_more _ c.args.objects q.bytes q.i q.invariant.1 _ _ q.invariant.0 n (omega arith) object)
 
 pub returns : goal.returns
 unfolding data_of
-returns c = laid _ _ _ _ _ _ _ _ _ _ _ _ _ _ _ _ _ c.header_bytes-h.ensures c.with_object-one.ensures c.with_object-two.ensures c.with_object-three.ensures c.with_object-four.ensures c.with_object-five.ensures c.with_object-six.ensures c.with_object-seven.ensures ∙ rw c.our_fields.ensures
+returns c =
+    let q = c.loop-i in
+    let n : length c.args.objects ≡ 7 = search rules in
+    rw (laid_all _ c.args.objects q.bytes q.i q.invariant.1 q.invariant.0 n (omega arith), c.copy_from_slice.ensures.after, c.header_bytes-h.ensures, c.our_fields.ensures)

@@ -6,16 +6,12 @@ use mathlib.Core.Path.{◌≡◌, refl, sym, ap, ◌∙◌}
 use lib.ListN.{length, drop}
 use Rattle.ground.proofs.Parts.{rest}
 use Rattle.rack.proofs.Loads.{from_one, place_in_slots, long}
-use Rattle.setup.specs.SetUps.{accepted_set_up}
 use Rattle.tally.proofs.ByParts.{by_parts}
 use Rattle.playing.specs.Meeting.{held_by}
 use Rattle.playing.proofs.Sums.{rack_in}
 use Rattle.playing.proofs.Kept.{none_left, stops_unlaid, stops_unread, event_reaches, set_up_reaches, absent, can_weigh, present, refused_set_up, accepted_set_up_lem}
 use Rattle.playing.proofs.night.Goals as goal
-use Rattle.setup.specs.declared.SetUp.{SetUp}
-use Rattle.std.specs.Prelude.{Option}
 use Rattle.std.specs.Prelude.{is_some}
-use Rattle.night.specs.SetUps.{set_up_or_none}
 
 pub loop-init : goal.loop-init
 loop-init c = let all : length c.args.s.now - 0 ≡ length c.args.s.now = omega arith in record { within = search rules; long = search (rules, long) depth 7; small = c.summed-total.ensures.1; sum_is = c.summed-total.ensures.0; rest = rw all refl }
@@ -50,17 +46,17 @@ loop-preserved-then-is_in c = let one_fewer : length c.args.s.now - (c.loop.coun
 pub loop-preserved-then-is_event : goal.loop-preserved-then-is_event
 loop-preserved-then-is_event c = let one_fewer : length c.args.s.now - (c.loop.counter + 1) ≡ length c.args.s.now - c.loop.counter - 1 = omega arith in rw (one_fewer, c.size-at.ensures) (absent c.loop.invariant (omega arith) _ (rest c.loop.at c.args.s.now) c.next-found.result c.next-found.ensures (sym c.is_event.ensures ∙ c.if-is_event.true) c.number_in-number.result c.number_in-number.ensures (sym c.is_in.ensures ∙ c.if-is_in.false) c.nobody-tally.result c.nobody-tally.ensures)
 
-pub overflow_add-at-then-laid : goal.overflow_add-at-then-laid
-overflow_add-at-then-laid c = omega (arith, set_up_reaches c.loop.invariant (omega arith) _ (rest c.loop.at c.args.s.now) c.next-found.result c.next-found.ensures (sym c.is_set_up.ensures ∙ c.if-is_set_up.true), c.size-at-then-laid.ensures)
+pub overflow_add-at-then-is_set_up : goal.overflow_add-at-then-is_set_up
+overflow_add-at-then-is_set_up c = omega (arith, set_up_reaches c.loop.invariant (omega arith) _ (rest c.loop.at c.args.s.now) c.next-found.result c.next-found.ensures (sym c.is_set_up.ensures ∙ c.if-is_set_up.true), c.size-at-then-is_set_up.ensures)
 
-pub loop-preserved-then-is_accepted : goal.loop-preserved-then-is_accepted
-loop-preserved-then-is_accepted c = let one_fewer : length c.args.s.now - (c.loop.counter + 1) ≡ length c.args.s.now - c.loop.counter - 1 = omega arith in rw (one_fewer, c.size-at-then-laid.ensures) (accepted_set_up_lem c.loop.invariant (omega arith) _ (rest c.loop.at c.args.s.now) c.next-found.result c.next-found.ensures (sym c.is_set_up.ensures ∙ c.if-is_set_up.true) (ap (λ (x : Option SetUp). is_some x) (sym c.set_up-laid.ensures) ∙ c.if-laid.true) c.set_up-started.result (c.set_up-started.ensures ∙ ap (λ (x : Option SetUp). accepted_set_up (set_up_or_none x)) c.set_up-laid.ensures) c.set_up_told-tally.result c.set_up_told-tally.ensures (sym c.is_accepted.ensures ∙ c.if-is_accepted.true) c.summed-total-then-is_accepted.result (search (rules, long) depth 7) c.summed-total-then-is_accepted.ensures)
+pub loop-preserved-in-Ok : goal.loop-preserved-in-Ok
+loop-preserved-in-Ok c = let one_fewer : length c.args.s.now - (c.loop.counter + 1) ≡ length c.args.s.now - c.loop.counter - 1 = omega arith in rw (one_fewer, c.size-at-then-is_set_up.ensures) (accepted_set_up_lem c.loop.invariant (omega arith) _ (rest c.loop.at c.args.s.now) c.next-found.result c.next-found.ensures (sym c.is_set_up.ensures ∙ c.if-is_set_up.true) c.in-Some.u (sym c.set_up.ensures ∙ c.in-Some.is) c.in-Ok.rack (sym c.set_up-then-is_set_up.ensures ∙ c.in-Ok.is) c.set_up_told-tally.result c.set_up_told-tally.ensures c.summed-total-in-Ok.result (search (rules, long) depth 7) c.summed-total-in-Ok.ensures)
 
 pub loop-preserved : goal.loop-preserved
-loop-preserved c = let one_fewer : length c.args.s.now - (c.loop.counter + 1) ≡ length c.args.s.now - c.loop.counter - 1 = omega arith in rw (one_fewer, c.size-at-then-laid.ensures) (refused_set_up c.loop.invariant (omega arith) _ (rest c.loop.at c.args.s.now) c.next-found.result c.next-found.ensures (sym c.is_set_up.ensures ∙ c.if-is_set_up.true) (ap (λ (x : Option SetUp). is_some x) (sym c.set_up-laid.ensures) ∙ c.if-laid.true) c.set_up-started.result (c.set_up-started.ensures ∙ ap (λ (x : Option SetUp). accepted_set_up (set_up_or_none x)) c.set_up-laid.ensures) c.set_up_told-tally.result c.set_up_told-tally.ensures (sym c.is_accepted.ensures ∙ c.if-is_accepted.false))
+loop-preserved c = let one_fewer : length c.args.s.now - (c.loop.counter + 1) ≡ length c.args.s.now - c.loop.counter - 1 = omega arith in rw (one_fewer, c.size-at-then-is_set_up.ensures) (refused_set_up c.loop.invariant (omega arith) _ (rest c.loop.at c.args.s.now) c.next-found.result c.next-found.ensures (sym c.is_set_up.ensures ∙ c.if-is_set_up.true) c.in-Some.u (sym c.set_up.ensures ∙ c.in-Some.is) c.in-Err.no (sym c.set_up-then-is_set_up.ensures ∙ c.in-Err.is) c.set_up_told-tally-in-Err.result c.set_up_told-tally-in-Err.ensures)
 
-pub returns-then-is_set_up : goal.returns-then-is_set_up
-returns-then-is_set_up c = c.held.ensures ∙ stops_unlaid c.loop.invariant (omega arith) _ (rest c.loop.at c.args.s.now) c.next-found.result c.next-found.ensures (sym c.is_set_up.ensures ∙ c.if-is_set_up.true) (ap (λ (x : Option SetUp). is_some x) (sym c.set_up-laid.ensures) ∙ c.if-laid.false)
+pub returns-in_default : goal.returns-in_default
+returns-in_default c = c.held.ensures ∙ stops_unlaid c.loop.invariant (omega arith) _ (rest c.loop.at c.args.s.now) c.next-found.result c.next-found.ensures (sym c.is_set_up.ensures ∙ c.if-is_set_up.true) (ap is_some (sym c.set_up.ensures ∙ c.in_default.is))
 
 pub returns-in-loop : goal.returns-in-loop
 returns-in-loop c = c.held-in-loop.ensures ∙ stops_unread c.loop.invariant (omega arith) _ (rest c.loop.at c.args.s.now) c.next-found.result c.next-found.ensures (sym c.is_event.ensures ∙ c.if-is_event.false) (sym c.is_set_up.ensures ∙ c.if-is_set_up.false)

@@ -3,4 +3,4 @@ use Rattle.playing.proofs.Meets.{as_stepped}
 use Rattle.playing.proofs.turns.stepped.Goals as goal
 
 pub returns : goal.returns
-returns c = c.done.ensures ∙ rw (c.met-m.ensures, c.offer_in-o.ensures) (as_stepped _ _ _ _ _)
+returns c = c.done.ensures ∙ rw (c.met.ensures, c.offer_in-o.ensures) (as_stepped _ _ _ _ _)
