@@ -1,22 +1,20 @@
 -- What a field of a night comes to over a rack, and all fields one after the other: the list of answers. docs/NIGHT.md says which fields there are.
-use Rattle.std.specs.Prelude.{ℕ, zero, suc, ◌+◌, ◌≡◌, List, [], ◌∷◌, length, drop}
+use Rattle.std.specs.Prelude.{ℕ, zero, suc, ◌+◌, ◌≡◌, List, [], ◌∷◌, length, drop, Ok, Err, Option, Some, None, option_map, Result}
 use Rattle.port.specs.Memory.{no_actions}
 use Rattle.rack.specs.declared.Rack.{Rack}
 use Rattle.rack.specs.declared.RackAnswer.{RackAnswer}
 use Rattle.rack.specs.Steps.{event, packet, new_offer, step}
-use Rattle.setup.specs.SetUps.{accepted_set_up}
+use Rattle.setup.specs.SetUps.{accepted_set_up, verdict_of, rack_or_none}
 use Rattle.night.specs.declared.Found.{Found}
 use Rattle.night.specs.Fields.{size_of}
 use Rattle.night.specs.Events.{next_of, behind_of, offer_of}
 use Rattle.night.specs.SetUps.{set_up_in}
 use Rattle.fields.specs.declared.Field.{Field}
 use Rattle.ground.specs.Refusals.{Verdict}
-use Rattle.std.specs.Prelude.{Ok, Err}
-use Rattle.setup.specs.SetUps.{verdict_of, rack_or_none}
-use Rattle.std.specs.Prelude.{Option, Some, None, option_map, Result}
 use Rattle.setup.specs.declared.SetUp.{SetUp}
 use Rattle.ground.specs.declared.Refusal.{Refusal}
 
+-- an event, and the rack's answer to it
 abbrev pub event_field : Found → RackAnswer → ℕ → Field
 event_field found a size = record { found = found; verdict = a.verdict; actions = a.actions; rack = a.rack; size = size }
 

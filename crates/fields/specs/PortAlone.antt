@@ -1,6 +1,6 @@
 -- What a field comes to at one port that is looked at by itself: the port's own answer, where that is the whole. `proofs/PortAlone` shows that it
 -- then is the field's answer in the rack; nobody has to believe the definitions here.
-use Rattle.std.specs.Prelude.{ℕ, Bool, not, ◌&&◌, List, eqb}
+use Rattle.std.specs.Prelude.{ℕ, Bool, not, ◌&&◌, List, eqb, Option, None}
 use Rattle.port.specs.declared.Answer.{Answer}
 use Rattle.port.specs.Calls as Port
 use Rattle.slot.specs.declared.Slot.{Slot}
@@ -10,7 +10,6 @@ use Rattle.night.specs.declared.Found.{Found}
 use Rattle.night.specs.Fields.{size_of}
 use Rattle.night.specs.Events.{next_of, behind_of, offer_of}
 use Rattle.fields.specs.declared.alone.Alone.{Alone}
-use Rattle.std.specs.Prelude.{Option, None}
 use Rattle.std.specs.Bool.{then_some}
 
 -- an event that came to this port or to another; none where the rack is to be asked

@@ -8,11 +8,11 @@ use mathlib.Core.List.{List, [], ◌∷◌}
 use lib.ListN.{length, drop}
 use Rattle.rack.specs.declared.Rack.{Rack}
 use Rattle.setup.specs.declared.SetUp.{SetUp}
-use Rattle.setup.specs.SetUps.{accepted_set_up}
+use Rattle.setup.specs.SetUps.{accepted_set_up, verdict_of, rack_or_none}
 use Rattle.night.specs.declared.Found.{Found}
 use Rattle.night.specs.Fields.{size_of}
 use Rattle.night.specs.Events.{next_of}
-use Rattle.night.specs.SetUps.{set_up_in}
+use Rattle.night.specs.SetUps.{set_up_in, set_up_or_none}
 use Rattle.fields.specs.declared.Field.{Field}
 use Rattle.fields.specs.Answers.{started_field, field_by, field_of, and_behind, fields_in, last_rack, size_of_all, Through}
 use Rattle.fields.specs.Answers as Fields
@@ -23,8 +23,6 @@ use Rattle.nightclaims.specs.Pieces.{played}
 use Rattle.nightclaims.specs.Answered.{answer_told, answers_told}
 use Rattle.ground.specs.Refusals.{Verdict}
 use Rattle.std.specs.Prelude.{Ok, Err, Option, Some, None, is_some, option_map, IfSome}
-use Rattle.setup.specs.SetUps.{verdict_of, rack_or_none}
-use Rattle.night.specs.SetUps.{set_up_or_none}
 
 -- ---- one field
 module _ (r : Rack) (l : List ℕ) where

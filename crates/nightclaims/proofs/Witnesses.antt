@@ -30,7 +30,7 @@ use Rattle.slot.specs.Load.{approves}
 use Rattle.slot.specs.Answers.{judged, settled}
 use Rattle.rack.specs.Ports.{at, in_rack, others, power_rule}
 use Rattle.rack.specs.Steps.{event, packet, answer_at, step}
-use Rattle.setup.specs.SetUps.{good_setting, good_set_up, no_rack, accepted_set_up}
+use Rattle.setup.specs.SetUps.{good_setting, good_set_up, no_rack, accepted_set_up, verdict_of}
 use Rattle.night.specs.Fields.{tag_of, length_of, size_of, is_whole, value_of, number_at, offer_in}
 use Rattle.night.specs.Events.{event_of, kind_of, next_of, behind_of}
 use Rattle.night.specs.SetUps.{head_is, is_setting, setting_of, is_port, is_supply, placed, group_in, set_up_in}
@@ -47,7 +47,6 @@ use Rattle.nightclaims.specs.Pieces.{played, left_of, in_pieces, joined, read_of
 use Rattle.nightclaims.specs.Happened.{happened_in, no_set_up_in}
 use Rattle.nightclaims.specs.InSupply.{held_in}
 use Rattle.std.specs.Prelude.{Ok, is_some}
-use Rattle.setup.specs.SetUps.{verdict_of}
 
 -- docs/NIGHT.md, "An example": 34 bytes of set-up, attach at port 1, the packet `81 00`; and the Request of 5 V 3 A
 abbrev night : List ℕ
