@@ -96,7 +96,7 @@ pub fn first(r: Rack, s: &[u8]) -> Option<Field>
         Found::Cut | Found::UnknownTag | Found::WrongLength => None,
         Found::SetUp => set_up(r, s, size),
         Found::Event(number, e) => Some(answered(found, r.event(number, e), size)),
-        Found::Packet(number) => { Some(answered(found, r.packet(number, night::behind(s)), size)) }
+        Found::Packet(number) => Some(answered(found, r.packet(number, night::behind(s)), size)),
         Found::NewOffer(number) => {
             Some(answered(found, r.new_offer(number, night::offer(s)), size))
         }
