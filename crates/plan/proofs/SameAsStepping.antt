@@ -43,7 +43,7 @@ use Rattle.slot.specs.Answers.{has_asked, answer_of, joined, judged, settled}
 use Rattle.plan.specs.declared.Prior.{Prior}
 use Rattle.plan.specs.declared.Cue.{Cue}
 use Rattle.plan.specs.declared.Met.{Met}
-use Rattle.plan.specs.Plans.{plain, met_outcome, met_event, met_repeat, met_new, is_good_crc, met_meaning, met_message, met_reading, met_packet, met_offer, refuses, goes, is_judge, still_runs, plan_led, plan_heard, plan_of, answered_by, settled_plan, after, judging, resends, performed, done_plan, done_of}
+use Rattle.plan.specs.Plans.{plain, met_outcome, met_event, met_repeat, met_new, is_good_crc, met_meaning, met_message, met_reading, met_packet, met_offer, goes, is_judge, still_runs, plan_led, plan_heard, plan_of, answered_by, settled_plan, with_answer, after, judging, resends, performed, done_plan, done_of}
 use Rattle.plan.proofs.Asking.{quiet_test, ask_test, no_stimulus_asks, asks_elsewhere, is_judge_lem, never, not_asked}
 use Rattle.std.specs.Prelude.{Some, None, Ok, Err, Option, Result}
 use Rattle.reading.specs.declared.Message.{Message}
@@ -60,7 +60,7 @@ Silent prior = (m : Packet) (a : Answer) → resends prior m a ≡ a
 
 module _ (p : Port) (o : Offer) where
   performs : (prior : Prior) (crc : Option (List ℕ)) (runs : Option Timer) (change : Change) (way : Way) (a : Asked) → Silent prior →
-      performed p o (record { verdict = Ok tt; prior = prior; crc = crc; runs = runs; change = change; way = way; asks = false; asked = a }) ≡ turn (after prior o p) (state_of p) crc runs change way a
+      performed p o (record { prior = prior; crc = crc; runs = runs; change = change; way = way; asks = false; asked = a }) ≡ turn (after prior o p) (state_of p) crc runs change way a
   unfolding performed
   performs prior crc runs change way a silent = silent _ _
 
@@ -103,12 +103,12 @@ module _ (p : Port) (o : Offer) where
   -- ---- a packet
   -- what comes to Judge asks what it would be judged by there
   to_judge : (id : ℕ) (soft : Bool) (crc : Option (List ℕ)) (runs : Option Timer) (a : Asked) →
-      performed p o (record { verdict = Ok tt; prior = Prior.Heard id soft; crc = crc; runs = runs; change = Change.Nothing; way = Way.Judge; asks = true; asked = a }) ≡ turn (hearing p id soft) (state_of p) crc runs Change.Nothing Way.Judge a
+      performed p o (record { prior = Prior.Heard id soft; crc = crc; runs = runs; change = Change.Nothing; way = Way.Judge; asks = true; asked = a }) ≡ turn (hearing p id soft) (state_of p) crc runs Change.Nothing Way.Judge a
   unfolding performed turn enter
   to_judge id soft crc runs a = refl
 
   heard_so : (id : ℕ) (soft : Bool) (crc : Option (List ℕ)) (runs : Option Timer) (a : Asked) (way : Way) (b : Bool) → is_judge way ≡ b →
-      performed p o (record { verdict = Ok tt; prior = Prior.Heard id soft; crc = crc; runs = runs; change = Change.Nothing; way = way; asks = b; asked = a }) ≡ turn (hearing p id soft) (state_of p) crc runs Change.Nothing way a
+      performed p o (record { prior = Prior.Heard id soft; crc = crc; runs = runs; change = Change.Nothing; way = way; asks = b; asked = a }) ≡ turn (hearing p id soft) (state_of p) crc runs Change.Nothing way a
   heard_so id soft crc runs a way true e = rw (is_judge_lem way e) (to_judge id soft crc runs a)
   heard_so id soft crc runs a way false e = performs (Prior.Heard id soft) crc runs Change.Nothing way a (λ m x. refl)
 
@@ -205,7 +205,7 @@ stopped_alike State.Default pending false = refl
 -- the answer to a port in Judge is what the plan does at once
 over_judge : (p : Port) (s : State) (crc : Option (List ℕ)) (a : Asked) (pending yes' : Bool) →
     joined (turn p s crc (running s pending) Change.Nothing Way.Judge a) (event_of (turn p s crc (running s pending) Change.Nothing Way.Judge a).port (answer_of yes'))
-    ≡ turn (judging true a p) s crc (running s pending) (answered_by yes' (refuses NotAwaited)).change (answered_by yes' (refuses NotAwaited)).way a
+    ≡ turn (judging true a p) s crc (running s pending) (answered_by yes' (goes (plain Cue.Done Prior.Nothing) None Change.Nothing false Way.Stay)).change (answered_by yes' (goes (plain Cue.Done Prior.Nothing) None Change.Nothing false Way.Stay)).way a
 unfolding turn enter event_of happens leads change_of
 over_judge p s crc a pending true = rw (stopped_alike s pending true) refl
 over_judge p s crc a pending false = rw (stopped_alike s pending false) refl
@@ -221,26 +221,26 @@ module _ (t : Slot) (o : Offer) (others supply : ℕ) where
 
   -- what asks nothing, on a way that does not lead to Judge
   asks_nothing : (m : Met) (runs : Option Timer) (change : Change) (way : Way) → is_judge way ≡ false →
-      done_plan t.port o (settled_plan t others supply (goes m runs change false way)) ≡ settled t others supply (performed t.port o (goes m runs change false way))
-  unfolding settled_plan
+      done_plan t.port o (settled_plan t others supply (Ok (goes m runs change false way))) ≡ settled t others supply (performed t.port o (goes m runs change false way))
+  unfolding with_answer
   asks_nothing m runs change way w = sym (unsettled (performed t.port o (goes m runs change false way)) (not_asked t.port o (goes m runs change false way) refl w))
 
-  refused_so : (r : Refusal) → done_plan t.port o (settled_plan t others supply (refuses r)) ≡ settled t others supply (refused_by r t.port)
-  unfolding settled_plan
+  refused_so : (r : Refusal) → done_plan t.port o (settled_plan t others supply (Err r)) ≡ settled t others supply (refused_by r t.port)
+  unfolding with_answer
   refused_so r = sym (unsettled (refused_by r t.port) (never (same (state_of t.port) State.Judge)))
 
   -- what asks: the power answer is in it
   answered_so : (h : Heard) (id : ℕ) (soft : Bool) (crc : Option (List ℕ)) (a : Asked) (yes' : Bool) →
-      done_plan t.port o (answered_by yes' (goes (record { cue = Cue.Hears h; prior = Prior.Heard id soft; crc = crc; asked = a }) (running_in t.port) Change.Nothing true Way.Judge))
+      performed t.port o (answered_by yes' (goes (record { cue = Cue.Hears h; prior = Prior.Heard id soft; crc = crc; asked = a }) (running_in t.port) Change.Nothing true Way.Judge))
       ≡ judged yes' (turn (hearing t.port id soft) (state_of t.port) crc (running_in t.port) Change.Nothing Way.Judge a)
   unfolding judged performed
   answered_so h id soft crc a true = sym (over_judge (hearing t.port id soft) (state_of t.port) crc a (pending_in t.port) true)
   answered_so h id soft crc a false = sym (over_judge (hearing t.port id soft) (state_of t.port) crc a (pending_in t.port) false)
 
   asks_so : (h : Heard) (id : ℕ) (soft : Bool) (crc : Option (List ℕ)) (a : Asked) → same (state_of t.port) State.Judge ≡ false →
-      done_plan t.port o (settled_plan t others supply (goes (record { cue = Cue.Hears h; prior = Prior.Heard id soft; crc = crc; asked = a }) (running_in t.port) Change.Nothing true Way.Judge))
+      done_plan t.port o (settled_plan t others supply (Ok (goes (record { cue = Cue.Hears h; prior = Prior.Heard id soft; crc = crc; asked = a }) (running_in t.port) Change.Nothing true Way.Judge)))
       ≡ settled t others supply (turn (hearing t.port id soft) (state_of t.port) crc (running_in t.port) Change.Nothing Way.Judge a)
-  unfolding settled_plan turn enter
+  unfolding with_answer turn enter
   asks_so h id soft crc a elsewhere =
       answered_so h id soft crc a (approves t others supply a.worth)
       ∙ sym (asked_so (turn (hearing t.port id soft) (state_of t.port) crc (running_in t.port) Change.Nothing Way.Judge a) (and (not (same (state_of t.port) State.Judge)) true (not_false (same (state_of t.port) State.Judge) elsewhere) refl))
@@ -251,7 +251,7 @@ module _ (t : Slot) (o : Offer) (others supply : ℕ) where
   led_so m e expired (Some way) k = asks_nothing m (still_runs expired (running_in t.port)) (change_of (state_of t.port) e) way (not_true (is_judge way) (holds (not (is_judge way)) k))
 
   heard_so' : (h : Heard) (id : ℕ) (soft : Bool) (crc : Option (List ℕ)) (a : Asked) (way : Way) (b : Bool) → is_judge way ≡ b → T (ask_test (state_of t.port) (Some way)) →
-      done_plan t.port o (settled_plan t others supply (goes (record { cue = Cue.Hears h; prior = Prior.Heard id soft; crc = crc; asked = a }) (running_in t.port) Change.Nothing b way))
+      done_plan t.port o (settled_plan t others supply (Ok (goes (record { cue = Cue.Hears h; prior = Prior.Heard id soft; crc = crc; asked = a }) (running_in t.port) Change.Nothing b way)))
       ≡ settled t others supply (performed t.port o (goes (record { cue = Cue.Hears h; prior = Prior.Heard id soft; crc = crc; asked = a }) (running_in t.port) Change.Nothing b way))
   heard_so' h id soft crc a way false e k = asks_nothing (record { cue = Cue.Hears h; prior = Prior.Heard id soft; crc = crc; asked = a }) (running_in t.port) Change.Nothing way e
   heard_so' h id soft crc a way true e k =

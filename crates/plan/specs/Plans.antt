@@ -39,7 +39,6 @@ use Rattle.plan.specs.declared.Prior.{Prior}
 use Rattle.plan.specs.declared.Cue.{Cue}
 use Rattle.plan.specs.declared.Met.{Met}
 use Rattle.plan.specs.declared.Plan.{Plan}
-use Rattle.ground.specs.Refusals.{Verdict}
 use Rattle.std.specs.Prelude.{Some, None, Ok, Err, Option, Result}
 use Rattle.reading.specs.declared.Message.{Message}
 
@@ -100,11 +99,8 @@ unfoldable pub met_offer : ℕ → Offer → Met
 met_offer limit o = cond (good_offer limit o) (plain (Cue.Meets Stimulus.NewOffer false) Prior.Replaced) (plain (Cue.Refused BadOffer) Prior.Nothing)
 
 -- ---- what is to be done
-abbrev pub refuses : Refusal → Plan
-refuses r = record { verdict = Err r; prior = Prior.Nothing; crc = no_crc; runs = None; change = Change.Nothing; way = Way.Stay; asks = false; asked = nothing_asked }
-
 abbrev pub goes : Met → Option Timer → Change → Bool → Way → Plan
-goes m runs change asks way = record { verdict = Ok tt; prior = m.prior; crc = m.crc; runs = runs; change = change; way = way; asks = asks; asked = m.asked }
+goes m runs change asks way = record { prior = m.prior; crc = m.crc; runs = runs; change = change; way = way; asks = asks; asked = m.asked }
 
 abbrev pub is_judge : Way → Bool
 is_judge Way.Stay = false
@@ -132,30 +128,34 @@ abbrev pub still_runs : Bool → Option Timer → Option Timer
 still_runs true t = None
 still_runs false t = t
 
-abbrev pub plan_led : Option Way → Stimulus → Bool → Port → Met → Plan
-plan_led None e expired p m = refuses NotAwaited
-plan_led (Some way) e expired p m = goes m (still_runs expired (running_in p)) (change_of (state_of p) e) false way
+abbrev pub plan_led : Option Way → Stimulus → Bool → Port → Met → Result Plan Refusal
+plan_led None e expired p m = Err NotAwaited
+plan_led (Some way) e expired p m = Ok (goes m (still_runs expired (running_in p)) (change_of (state_of p) e) false way)
 
-abbrev pub plan_heard : Option Way → Port → Met → Plan
-plan_heard None p m = refuses NotAwaited
-plan_heard (Some way) p m = goes m (running_in p) Change.Nothing (is_judge way) way
+abbrev pub plan_heard : Option Way → Port → Met → Result Plan Refusal
+plan_heard None p m = Err NotAwaited
+plan_heard (Some way) p m = Ok (goes m (running_in p) Change.Nothing (is_judge way) way)
 
-abbrev pub plan_by : Cue → Port → Met → Plan
-plan_by (Cue.Refused r) p m = refuses r
-plan_by Cue.Done p m = goes m None Change.Nothing false Way.Stay
+abbrev pub plan_by : Cue → Port → Met → Result Plan Refusal
+plan_by (Cue.Refused r) p m = Err r
+plan_by Cue.Done p m = Ok (goes m None Change.Nothing false Way.Stay)
 plan_by (Cue.Meets e expired) p m = plan_led (leads (state_of p) e (facts_of p)) e expired p m
 plan_by (Cue.Hears h) p m = plan_heard (on_packet (state_of p) h) p m
 
-unfoldable pub plan_of : Port → Met → Plan
+unfoldable pub plan_of : Port → Met → Result Plan Refusal
 plan_of p m = plan_by m.cue p m
 
 -- the power answer within the event
 abbrev pub answered_by : Bool → Plan → Plan
-answered_by true x = record { verdict = x.verdict; prior = x.prior; crc = x.crc; runs = x.runs; change = Change.Accepted; way = Way.Accepting; asks = true; asked = x.asked }
-answered_by false x = record { verdict = x.verdict; prior = x.prior; crc = x.crc; runs = x.runs; change = Change.Nothing; way = Way.Refusing; asks = true; asked = x.asked }
+answered_by true x = record { prior = x.prior; crc = x.crc; runs = x.runs; change = Change.Accepted; way = Way.Accepting; asks = true; asked = x.asked }
+answered_by false x = record { prior = x.prior; crc = x.crc; runs = x.runs; change = Change.Nothing; way = Way.Refusing; asks = true; asked = x.asked }
 
-unfoldable pub settled_plan : Slot → ℕ → ℕ → Plan → Plan
-settled_plan t others supply x = cond x.asks (answered_by (approves t others supply x.asked.worth) x) x
+unfoldable pub with_answer : Slot → ℕ → ℕ → Plan → Plan
+with_answer t others supply x = cond x.asks (answered_by (approves t others supply x.asked.worth) x) x
+
+abbrev pub settled_plan : Slot → ℕ → ℕ → Result Plan Refusal → Result Plan Refusal
+settled_plan t others supply (Ok x) = Ok (with_answer t others supply x)
+settled_plan t others supply (Err r) = Err r
 
 -- ---- what is done
 -- the port as the protocol rules leave it, or with the new offer o
@@ -228,12 +228,9 @@ resends Prior.Replaced m a = a
 unfoldable pub performed : Port → Offer → Plan → Answer
 performed p o x = resends x.prior p.channel.pending.packet (turn (judging x.asks x.asked (after x.prior o p)) (state_of p) x.crc x.runs x.change x.way x.asked)
 
-abbrev pub done_by : Verdict → Port → Offer → Plan → Answer
-done_by (Ok _) p o x = performed p o x
-done_by (Err r) p o x = refused_by r p
-
-abbrev pub done_plan : Port → Offer → Plan → Answer
-done_plan p o x = done_by x.verdict p o x
+abbrev pub done_plan : Port → Offer → Result Plan Refusal → Answer
+done_plan p o (Ok x) = performed p o x
+done_plan p o (Err r) = refused_by r p
 
 -- a port's answer; o is the new offer, where one has come
 unfoldable pub done_of : Slot → Offer → Met → ℕ → ℕ → Answer

@@ -3,35 +3,19 @@ ghost use Rattle.std.specs.Prelude.{◌≡◌};
 ghost use Rattle.stimuli.specs.Leads.{leads};
 ghost use Rattle.hearing.specs.Packets.{on_packet};
 ghost use Rattle.port.specs.Memory.{state_of, facts_of};
-ghost use Rattle.plan.specs.Plans.{refuses, goes, is_judge, still_runs, plan_led, plan_heard, plan_of, answered_by, settled_plan};
+ghost use Rattle.plan.specs.Plans.{goes, is_judge, still_runs, plan_led, plan_heard, plan_of, answered_by, with_answer};
 
-use crate::{Cue, Met, Plan, Prior};
+use crate::{Cue, Met, Plan};
 use ground::Refusal;
 use port::Port;
-use power::{Change, NOTHING_ASKED};
-use slot::Slot;
+use power::Change;
+use slot::{Beside, Slot};
 use source::{Heard, Stimulus, Timer, Way};
-
-fn refuses(r: Refusal) -> Plan
-    ensures { result ≡ refuses r }
-{
-    Plan {
-        verdict: Err(r),
-        prior: Prior::Nothing,
-        crc: None,
-        runs: None,
-        change: Change::Nothing,
-        way: Way::Stay,
-        asks: false,
-        asked: NOTHING_ASKED,
-    }
-}
 
 fn goes(m: Met, runs: Option<Timer>, change: Change, asks: bool, way: Way) -> Plan
     ensures { result ≡ goes m runs change asks way }
 {
     Plan {
-        verdict: Ok(()),
         prior: m.prior,
         crc: m.crc,
         runs,
@@ -54,34 +38,34 @@ fn still_runs(expired: bool, t: Option<Timer>) -> Option<Timer>
     if expired { None } else { t }
 }
 
-fn led(e: Stimulus, expired: bool, p: Port, m: Met) -> Plan
+fn led(e: Stimulus, expired: bool, p: Port, m: Met) -> Result<Plan, Refusal>
     ensures { result ≡ plan_led (leads (state_of p) e (facts_of p)) e expired p m }
 {
     match stimuli::leads(p.state, e, p.facts()) {
-        None => refuses(Refusal::NotAwaited),
+        None => Err(Refusal::NotAwaited),
         Some(way) => {
             let runs = still_runs(expired, p.runs());
-            goes(m, runs, source::change(p.state, e), false, way)
+            Ok(goes(m, runs, source::change(p.state, e), false, way))
         }
     }
 }
 
-fn heard(h: Heard, p: Port, m: Met) -> Plan
+fn heard(h: Heard, p: Port, m: Met) -> Result<Plan, Refusal>
     ensures { result ≡ plan_heard (on_packet (state_of p) h) p m }
 {
     match hearing::packet_leads(p.state, h) {
-        None => refuses(Refusal::NotAwaited),
-        Some(way) => goes(m, p.runs(), Change::Nothing, is_judge(way), way),
+        None => Err(Refusal::NotAwaited),
+        Some(way) => Ok(goes(m, p.runs(), Change::Nothing, is_judge(way), way)),
     }
 }
 
 #[tactic(auto, unfolding(crate::specs::Plans::plan_of))]
-pub(crate) fn decided(p: Port, m: Met) -> Plan
+pub(crate) fn decided(p: Port, m: Met) -> Result<Plan, Refusal>
     ensures { result ≡ plan_of p m }
 {
     match m.cue {
-        Cue::Refused(r) => refuses(r),
-        Cue::Done => goes(m, None, Change::Nothing, false, Way::Stay),
+        Cue::Refused(r) => Err(r),
+        Cue::Done => Ok(goes(m, None, Change::Nothing, false, Way::Stay)),
         Cue::Meets(e, expired) => led(e, expired, p, m),
         Cue::Hears(h) => heard(h, p, m),
     }
@@ -104,12 +88,13 @@ fn answered(x: Plan, yes: bool) -> Plan
 }
 
 // With the power answer, where it is asked for.
-#[tactic(auto, unfolding(crate::specs::Plans::settled_plan))]
-pub(crate) fn settled(t: Slot, x: Plan, others: u64, supply: u32) -> Plan
-    ensures { result ≡ settled_plan t others supply x }
+#[tactic(auto, unfolding(crate::specs::Plans::with_answer))]
+pub(crate) fn settled(t: Slot, x: Plan, beside: Beside) -> Plan
+    ensures { result ≡ with_answer t beside.others beside.supply x }
 {
     if x.asks {
-        return answered(x, t.approves(others, supply, x.asked.worth));
+        answered(x, t.approves(beside, x.asked.worth))
+    } else {
+        x
     }
-    x
 }

@@ -2,7 +2,7 @@
 ghost use Rattle.std.specs.Prelude.{◌≡◌};
 ghost use Rattle.port.specs.Memory.{refused_by};
 ghost use Rattle.port.specs.Steps.{replaced};
-ghost use Rattle.plan.specs.Plans.{after, judging, base, channel_after, is_heard, power_judging, transmits, resends, performed, done_plan};
+ghost use Rattle.plan.specs.Plans.{after, judging, base, channel_after, is_heard, power_judging, transmits, resends, performed};
 
 use crate::{Plan, Prior};
 use channel::Channel;
@@ -97,7 +97,7 @@ fn resends(x: Prior, m: Packet, a: Answer) -> Answer
 }
 
 #[tactic(auto, unfolding(crate::specs::Plans::performed))]
-fn performed(p: Port, o: Offer, x: Plan) -> Answer
+pub(crate) fn performed(p: Port, o: Offer, x: Plan) -> Answer
     ensures { result ≡ performed p o x }
 {
     let q = ready(x.prior, x.asks, x.asked, o, p);
@@ -105,7 +105,8 @@ fn performed(p: Port, o: Offer, x: Plan) -> Answer
     resends(x.prior, p.channel.pending.packet, turned)
 }
 
-fn refused(r: Refusal, p: Port) -> Answer
+// A refusal leaves the port as it was.
+pub(crate) fn refused(r: Refusal, p: Port) -> Answer
     ensures { result ≡ refused_by r p }
 {
     Answer {
@@ -113,15 +114,5 @@ fn refused(r: Refusal, p: Port) -> Answer
         port: p,
         actions: NO_ACTIONS,
         held: Change::Nothing,
-    }
-}
-
-// A refusal leaves the port as it was.
-pub(crate) fn by_verdict(p: Port, o: Offer, x: Plan) -> Answer
-    ensures { result ≡ done_plan p o x }
-{
-    match x.verdict {
-        Ok(()) => performed(p, o, x),
-        Err(r) => refused(r, p),
     }
 }

@@ -6,12 +6,12 @@
 ghost use Rattle.std.specs.Prelude.{◌≡◌};
 ghost use Rattle.plan.specs.Plans.{met_event, met_packet, met_offer, done_of};
 
-use ground::{Refusal, Verdict};
+use ground::Refusal;
 use offers::{Asked, Offer};
 use port::{Answer, Event, Port};
 use power::Change;
 use sending::HeaderBytes;
-use slot::Slot;
+use slot::{Beside, Slot};
 use source::{Heard, Stimulus, Timer, Way};
 
 mod deciding;
@@ -47,10 +47,9 @@ pub struct Met {
     pub asked: Asked,
 }
 
-// What is to be done.
+// What is to be done, where nothing is refused.
 #[derive(Clone, Copy)]
 pub struct Plan {
-    pub verdict: Verdict,
     pub prior: Prior,
     pub crc: Option<HeaderBytes>,
     pub runs: Option<Timer>,
@@ -82,12 +81,13 @@ pub fn new_offer(limit: u32, o: Offer) -> Met
     meeting::new_offer(limit, o)
 }
 
-// The answer of a port beside others that take so much of the supply. `o` is the new offer, where one has
-// come.
+// The answer of a port beside the others. `o` is the new offer, where one has come.
 #[tactic(auto, unfolding(crate::specs::Plans::done_of))]
-pub fn done(t: Slot, o: Offer, m: Met, others: u64, supply: u32) -> Answer
-    ensures { result ≡ done_of t o m others supply }
+pub fn done(t: Slot, o: Offer, m: Met, beside: Beside) -> Answer
+    ensures { result ≡ done_of t o m beside.others beside.supply }
 {
-    let x = deciding::decided(t.port, m);
-    doing::by_verdict(t.port, o, deciding::settled(t, x, others, supply))
+    match deciding::decided(t.port, m) {
+        Ok(x) => doing::performed(t.port, o, deciding::settled(t, x, beside)),
+        Err(r) => doing::refused(r, t.port),
+    }
 }

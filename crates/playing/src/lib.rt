@@ -15,9 +15,9 @@ ghost use Rattle.playing.specs.Meeting.{held_by, Small};
 use ground::Refusal;
 use port::{Answer, NO_ACTIONS};
 use rack::{PORTS, Rack};
-use slot::Slot;
+use slot::{Beside, Slot};
 use source::State;
-use tally::{Sums, Tally};
+use tally::{Answered, Sums, Tally};
 
 mod laying;
 mod turns;
@@ -34,22 +34,28 @@ pub struct Played {
 fn nobody(t: Tally, number: u8) -> Tally
     ensures { result ≡ told t number (Err NotInRack) no_actions State.Detached State.Detached 0 }
 {
-    t.told(
-        number,
-        Err(Refusal::NotInRack),
-        NO_ACTIONS,
-        State::Detached,
-        State::Detached,
-        0,
-    )
+    t.told(Answered {
+        port: number,
+        verdict: Err(Refusal::NotInRack),
+        actions: NO_ACTIONS,
+        before: State::Detached,
+        after: State::Detached,
+        held: 0,
+    })
 }
 
 // The answer of the port that an event came to, which was in a state before: all but the count by verdict.
 fn answered(t: Tally, number: u8, was: State, a: Answer) -> Sums
     ensures { result ≡ sums_of (told t number a.verdict a.actions was (state_of a.port) a.port.power.held) }
 {
-    let p = a.port;
-    t.sums(number, a.verdict, a.actions, was, p.state, p.power.held)
+    t.sums(Answered {
+        port: number,
+        verdict: a.verdict,
+        actions: a.actions,
+        before: was,
+        after: a.port.state,
+        held: a.port.power.held,
+    })
 }
 
 // How many ports a rack of this count has.
@@ -125,7 +131,11 @@ pub fn night(r: Rack, t: Tally, s: &[u8]) -> Played
                 let t = slots[i];
                 let state = t.port.state;
                 let was = t.load();
-                let a = turns::stepped(t, found, f, total - was as u64, supply);
+                let beside = Beside {
+                    others: total - was as u64,
+                    supply,
+                };
+                let a = turns::stepped(t, found, f, beside);
                 let q = laying::port(a.port);
                 let u = Slot { port: q, ..t };
                 slots[i] = u;
@@ -133,10 +143,7 @@ pub fn night(r: Rack, t: Tally, s: &[u8]) -> Played
                 let sums = answered(tally, number, state, a);
                 let k = tally::verdict_number(a.verdict) as usize;
                 tally.verdicts[k] = tally::one_more(tally.verdicts[k]);
-                tally.accepts = sums.accepts;
-                tally.rejects = sums.rejects;
-                tally.hard_resets = sums.hard_resets;
-                tally.checksum = sums.checksum;
+                tally.sums = sums;
                 continue;
             }
             tally = nobody(tally, number);

@@ -7,7 +7,7 @@ use night::Found;
 use offers::Offer;
 use plan::Met;
 use port::{Answer, Event, Port};
-use slot::Slot;
+use slot::{Beside, Slot};
 
 pub(crate) fn is_event(found: Found) -> bool
     ensures { result ≡ is_event found }
@@ -56,10 +56,10 @@ fn offer_in(p: Port, found: Found, f: &[u8]) -> Offer
     }
 }
 
-// What the port answers, beside others that take so much of the supply.
-pub(crate) fn stepped(t: Slot, found: Found, f: &[u8], others: u64, supply: u32) -> Answer
-    ensures { result ≡ stepped_by t found f.now others supply }
+// What the port answers, beside the others.
+pub(crate) fn stepped(t: Slot, found: Found, f: &[u8], beside: Beside) -> Answer
+    ensures { result ≡ stepped_by t found f.now beside.others beside.supply }
 {
     let o = offer_in(t.port, found, f);
-    plan::done(t, o, met(t, found, f), others, supply)
+    plan::done(t, o, met(t, found, f), beside)
 }

@@ -12,7 +12,7 @@ use ground::{Refusal, Verdict};
 use offers::Offer;
 use port::{Actions, Answer, Event, NO_ACTIONS, Port};
 use power::Change;
-use slot::Slot;
+use slot::{Beside, Slot};
 
 // The most ports of a rack.
 pub const PORTS: usize = 32;
@@ -87,9 +87,14 @@ impl Rack {
     {
         let s = self.slot(i);
         if slot::has_asked(s.port, a.port) {
-            return s.settles(a, self.others(i), self.supply);
+            let beside = Beside {
+                others: self.others(i),
+                supply: self.supply,
+            };
+            s.settles(a, beside)
+        } else {
+            a
         }
-        a
     }
 
     fn put(self, i: usize, p: Port) -> Rack

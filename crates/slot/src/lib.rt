@@ -9,6 +9,13 @@ ghost use Rattle.slot.specs.Answers.{has_asked, answer_of, joined, settled};
 
 use port::{Actions, Answer, Event, Port};
 
+// What the other ports take of the supply, and the supply that all share.
+#[derive(Clone, Copy)]
+pub struct Beside {
+    pub others: u64,
+    pub supply: u32,
+}
+
 #[derive(Clone, Copy)]
 pub struct Slot {
     pub port: Port,
@@ -16,12 +23,14 @@ pub struct Slot {
     pub limit: u32,
 }
 
-// Whether there is room for so much beside what the others take.
-fn has_room(others: u64, load: u32, supply: u32) -> bool
-    ensures { result ≡ leb (others + load) supply }
-{
-    let all = supply as u64;
-    others <= all && load as u64 <= all - others
+impl Beside {
+    // Whether there is room for so much beside what the others take.
+    fn has_room(self, load: u32) -> bool
+        ensures { result ≡ leb (self.others + load) self.supply }
+    {
+        let all = self.supply as u64;
+        self.others <= all && load as u64 <= all - self.others
+    }
 }
 
 // Whether a port has come to ask the power rule.
@@ -61,20 +70,20 @@ impl Slot {
 
     // The power rule, for a port beside others that take so much of the supply.
     #[tactic(auto, unfolding(crate::specs::Load::approves))]
-    pub fn approves(self, others: u64, supply: u32, asked: u32) -> bool
-        ensures { result ≡ approves self others supply asked }
+    pub fn approves(self, beside: Beside, asked: u32) -> bool
+        ensures { result ≡ approves self beside.others beside.supply asked }
     {
         let load = ground::larger(self.load(), asked);
-        (asked <= self.limit) & has_room(others, load, supply)
+        (asked <= self.limit) & beside.has_room(load)
     }
 
     // The port's own answer to an event; with the power answer where it has asked.
     #[tactic(auto, unfolding(crate::specs::Answers::judged, crate::specs::Answers::settled))]
-    pub fn settles(self, a: Answer, others: u64, supply: u32) -> Answer
-        ensures { result ≡ settled self others supply a }
+    pub fn settles(self, a: Answer, beside: Beside) -> Answer
+        ensures { result ≡ settled self beside.others beside.supply a }
     {
         if has_asked(self.port, a.port) {
-            let yes = self.approves(others, supply, a.port.power.accepted.worth);
+            let yes = self.approves(beside, a.port.power.accepted.worth);
             joined(a, a.port.event(answer_of(yes)))
         } else {
             a

@@ -12,6 +12,6 @@ use Rattle.ground.specs.Refusals.{Verdict}
 
 pub by_parts : (t : Tally) (port : ℕ) (v : Verdict) (a : Actions) (before after : State) (held : ℕ) (sums : Sums) → sums ≡ sums_of (told t port v a before after held) →
     (k : ℕ) → k ≡ verdict_number v → (n : ℕ) → n ≡ one_more (get_or t.verdicts k 0) →
-    record { verdicts = set t.verdicts k n; accepts = sums.accepts; rejects = sums.rejects; hard_resets = sums.hard_resets; checksum = sums.checksum } ≡ told t port v a before after held
+    record { verdicts = set t.verdicts k n; sums = sums } ≡ told t port v a before after held
 unfolding told
 by_parts t port v a before after held sums e k f n g = rw (g, f, e) refl

@@ -18,10 +18,7 @@ use source::{State, Timer};
 pub struct Tally {
     // Answers by the number of their verdict: those that were not refused stand first.
     pub verdicts: [u64; 11],
-    pub accepts: u64,
-    pub rejects: u64,
-    pub hard_resets: u64,
-    pub checksum: u32,
+    pub sums: Sums,
 }
 
 // All of it but the answers by verdict: a loop that keeps those in their place need not hand them on.
@@ -33,16 +30,30 @@ pub struct Sums {
     pub checksum: u32,
 }
 
+// An event's answer: at which port, what was answered, the port's state before and after, and what it then
+// holds.
+#[derive(Clone, Copy)]
+pub struct Answered {
+    pub port: u8,
+    pub verdict: Verdict,
+    pub actions: Actions,
+    pub before: State,
+    pub after: State,
+    pub held: u32,
+}
+
 // Nothing has been answered.
 pub fn new() -> Tally
     ensures { result ≡ no_tally }
 {
     Tally {
         verdicts: [0u64; 11],
-        accepts: 0,
-        rejects: 0,
-        hard_resets: 0,
-        checksum: 0,
+        sums: Sums {
+            accepts: 0,
+            rejects: 0,
+            hard_resets: 0,
+            checksum: 0,
+        },
     }
 }
 
@@ -115,20 +126,22 @@ fn mixed_packet(sum: u32, m: Packet) -> u32
 
 // The checksum with an answer taken in.
 #[tactic(auto, unfolding(crate::specs::Checksum::checked))]
-fn checked(sum: u32, port: u8, v: Verdict, a: Actions, state: State, held: u32) -> u32
-    ensures { result ≡ checked sum port v a state held }
+fn checked(sum: u32, e: Answered) -> u32
+    ensures { result ≡ checked sum e.port e.verdict e.actions e.after e.held }
 {
-    let crc = a.good_crc;
-    let stop = a.stop;
-    let m = a.transmit;
-    let supply = a.supply;
-    let start = a.start;
-    let begun = mixed(mixed(sum, port as u32), verdict_number(v) as u32);
-    let stopped = mixed(mixed(begun, crc_number(crc)), timer_number(stop) as u32);
-    let sent = mixed_packet(stopped, m);
-    let set = mixed(mixed(sent, bit(a.hard_reset)), supply_number(supply) as u32);
-    let started = mixed(set, timer_number(start) as u32);
-    mixed(mixed(started, source::code_of(state) as u32), held)
+    let a = e.actions;
+    let begun = mixed(mixed(sum, e.port as u32), verdict_number(e.verdict) as u32);
+    let stopped = mixed(
+        mixed(begun, crc_number(a.good_crc)),
+        timer_number(a.stop) as u32,
+    );
+    let sent = mixed_packet(stopped, a.transmit);
+    let set = mixed(
+        mixed(sent, bit(a.hard_reset)),
+        supply_number(a.supply) as u32,
+    );
+    let started = mixed(set, timer_number(a.start) as u32);
+    mixed(mixed(started, source::code_of(e.after) as u32), e.held)
 }
 
 // One more, as far as the place for it goes.
@@ -148,58 +161,33 @@ fn counted_if(b: bool, n: u64) -> u64
 fn comes_to(s: State, before: State, after: State) -> bool
     ensures { result ≡ comes_to s before after }
 {
-    let was = source::code_of(before);
-    let is = source::code_of(after);
-    !(was == is) & (is == source::code_of(s))
+    !source::is(before, after) & source::is(after, s)
 }
 
 impl Tally {
-    // The sums with an event's answer in them: at which port, what was answered, the port's state before and
-    // after, and what it then holds.
-    pub fn sums(
-        self,
-        port: u8,
-        v: Verdict,
-        a: Actions,
-        before: State,
-        after: State,
-        held: u32,
-    ) -> Sums
-        ensures { result ≡ sums_of (told self port v a before after held) }
+    // The sums with an event's answer in them.
+    #[tactic(auto, unfolding(crate::specs::Counts::told))]
+    pub fn sums(self, e: Answered) -> Sums
+        ensures { result ≡ sums_of (told self e.port e.verdict e.actions e.before e.after e.held) }
     {
-        let accepts = counted_if(comes_to(State::Accepting, before, after), self.accepts);
-        let rejects = counted_if(comes_to(State::Refusing, before, after), self.rejects);
-        let hard_resets = counted_if(comes_to(State::Hard, before, after), self.hard_resets);
-        let checksum = checked(self.checksum, port, v, a, after, held);
+        let s = self.sums;
         Sums {
-            accepts,
-            rejects,
-            hard_resets,
-            checksum,
+            accepts: counted_if(comes_to(State::Accepting, e.before, e.after), s.accepts),
+            rejects: counted_if(comes_to(State::Refusing, e.before, e.after), s.rejects),
+            hard_resets: counted_if(comes_to(State::Hard, e.before, e.after), s.hard_resets),
+            checksum: checked(s.checksum, e),
         }
     }
 
     // An event's answer, taken in.
     #[tactic(auto, unfolding(crate::specs::Counts::told))]
-    pub fn told(
-        self,
-        port: u8,
-        v: Verdict,
-        a: Actions,
-        before: State,
-        after: State,
-        held: u32,
-    ) -> Tally
-        ensures { result ≡ told self port v a before after held }
+    pub fn told(self, e: Answered) -> Tally
+        ensures { result ≡ told self e.port e.verdict e.actions e.before e.after e.held }
     {
-        let s = self.sums(port, v, a, before, after, held);
-        let k = verdict_number(v) as usize;
+        let k = verdict_number(e.verdict) as usize;
         let mut t = self;
         t.verdicts[k] = one_more(t.verdicts[k]);
-        t.accepts = s.accepts;
-        t.rejects = s.rejects;
-        t.hard_resets = s.hard_resets;
-        t.checksum = s.checksum;
+        t.sums = self.sums(e);
         t
     }
 
@@ -210,7 +198,7 @@ impl Tally {
     {
         let k = verdict_number(v) as usize;
         let mut t = self;
-        t.checksum = mixed(self.checksum, k as u32);
+        t.sums.checksum = mixed(t.sums.checksum, k as u32);
         if v.is_err() {
             t.verdicts[k] = one_more(t.verdicts[k]);
         }
