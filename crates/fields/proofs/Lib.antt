@@ -1,4 +1,4 @@
-pub mod Answers
+pub mod ThenSome
 pub mod Through
 pub mod PortAlone
 pub mod NothingLoose

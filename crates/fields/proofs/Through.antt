@@ -3,19 +3,21 @@ use Prim.Native.Nat.{ℕ, zero, suc, ◌+◌, ◌-◌, ◌<◌, ◌≤◌}
 use native.Mathlib.Omega.{arith}
 use native.Mathlib.Nat.{not-suc-le-zero}
 use mathlib.Core.Path.{◌≡◌, refl, sym, ap, subst, ◌∙◌}
-use mathlib.Core.Bool.{Bool, true, false, cond}
+use mathlib.Core.Bool.{Bool, true, false}
 use mathlib.Core.List.{List, [], ◌∷◌}
 use lib.ListN.{length, drop, length-drop}
 use lib.Seq.{drop-drop}
 use borrow.Author.Tests.{leb-true}
+use Rattle.std.specs.Prelude.{Option, Some, None, option_map, IfSome}
 use Rattle.rack.specs.declared.Rack.{Rack}
+use Rattle.setup.specs.declared.SetUp.{SetUp}
+use Rattle.setup.specs.SetUps.{accepted_set_up}
 use Rattle.night.specs.declared.Found.{Found}
 use Rattle.night.specs.Fields.{size_of, is_whole}
 use Rattle.night.specs.Events.{next_of}
 use Rattle.night.specs.SetUps.{set_up_in}
 use Rattle.fields.specs.declared.Field.{Field}
-use Rattle.fields.specs.Answers.{field_by, field_of, fields_in, last_rack, size_of_all, Through}
-use Rattle.std.specs.Prelude.{is_some}
+use Rattle.fields.specs.Answers.{started_field, field_by, field_of, fields_in, last_rack, size_of_all, Through}
 
 -- ---- a field does not reach past the end
 abbrev NotCut : Found → Type 0
@@ -33,30 +35,33 @@ whole_found l true e h = leb-true (size_of l) (length l) e
 whole_found l false e h = absurd (rw e at h)
 
 module _ (r : Rack) (l : List ℕ) where
-  by_laid : (b : Bool) (size : ℕ) (f g : Field) → f.size ≡ size → g.size ≡ 0 → size ≤ length l → (cond b f g).size ≤ length l
-  by_laid true size f g e k h = omega (arith, e, h)
-  by_laid false size f g e k h = omega (arith, k)
+  abbrev Fits : Option Field → Type 0
+  Fits o = IfSome o (λ (f : Field). f.size ≤ length l)
 
-  by_found : (found : Found) → found ≡ next_of l → (field_by found r l).size ≤ length l
-  by_found Found.Cut e = omega arith
-  by_found Found.UnknownTag e = omega arith
-  by_found Found.WrongLength e = omega arith
-  by_found Found.SetUp e = by_laid (is_some (set_up_in l)) (size_of l) _ _ refl refl (whole_found l (is_whole l) refl (subst NotCut e tt))
+  by_laid : (laid : Option SetUp) (size : ℕ) → size ≤ length l → Fits (option_map (λ (u : SetUp). started_field r (accepted_set_up u) size) laid)
+  by_laid None size h = tt
+  by_laid (Some u) size h = h
+
+  by_found : (found : Found) → found ≡ next_of l → Fits (field_by found r l)
+  by_found Found.Cut e = tt
+  by_found Found.UnknownTag e = tt
+  by_found Found.WrongLength e = tt
+  by_found Found.SetUp e = by_laid (set_up_in l) (size_of l) (whole_found l (is_whole l) refl (subst NotCut e tt))
   by_found (Found.Event number x) e = whole_found l (is_whole l) refl (subst NotCut e tt)
   by_found (Found.Packet number) e = whole_found l (is_whole l) refl (subst NotCut e tt)
   by_found (Found.NewOffer number) e = whole_found l (is_whole l) refl (subst NotCut e tt)
 
-  pub fits : (field_of r l).size ≤ length l
+  pub fits : (f : Field) → field_of r l ≡ Some f → f.size ≤ length l
   unfolding field_of
-  fits = by_found (next_of l) refl
+  fits f e = subst Fits e (by_found (next_of l) refl)
 
 -- ---- the definition, a field at a time
-on : (n : ℕ) (r : Rack) (l : List ℕ) → 0 < n → (field_of r l).read ≡ true → fields_in n r l ≡ field_of r l ∷ fields_in (n - 1) (field_of r l).rack (drop (field_of r l).size l)
+on : (n : ℕ) (r : Rack) (l : List ℕ) (f : Field) → 0 < n → field_of r l ≡ Some f → fields_in n r l ≡ f ∷ fields_in (n - 1) f.rack (drop f.size l)
 unfolding fields_in
-on zero r l h e = absurd (not-suc-le-zero h)
-on (suc n) r l h e = let one_less : suc n - 1 ≡ n = omega arith in rw (e, one_less) refl
+on zero r l f h e = absurd (not-suc-le-zero h)
+on (suc n) r l f h e = let one_less : suc n - 1 ≡ n = omega arith in rw (e, one_less) refl
 
-no_more : (n : ℕ) (r : Rack) (l : List ℕ) → (field_of r l).read ≡ false → fields_in n r l ≡ []
+no_more : (n : ℕ) (r : Rack) (l : List ℕ) → field_of r l ≡ None → fields_in n r l ≡ []
 unfolding fields_in
 no_more zero r l e = refl
 no_more (suc n) r l e = rw e refl
@@ -85,26 +90,26 @@ module _ {r : Rack} {l : List ℕ} {rack : Rack} {place left : ℕ} (g : Going r
   pub used_up : left ≤ 0 → Through r l rack place
   used_up h = ends (none_left left rack (drop place l) h)
 
-  module _ (s : List ℕ) (is : s ≡ drop place l) (f : Field) (isf : f ≡ field_of rack s) where
-    pub reaches : place + f.size ≤ length l
-    reaches = omega (arith, g.within, fits rack s, ap (λ (x : Field). x.size) isf, ap length is ∙ length-drop place l)
+  module _ (s : List ℕ) (is : s ≡ drop place l) (o : Option Field) (iso : o ≡ field_of rack s) where
+    pub stops : o ≡ None → Through r l rack place
+    stops e = ends (ap (fields_in left rack) (sym is) ∙ no_more left rack s (sym iso ∙ e))
 
-    pub stops : f.read ≡ false → Through r l rack place
-    stops e = ends (ap (fields_in left rack) (sym is) ∙ no_more left rack s (ap (λ (x : Field). x.read) (sym isf) ∙ e))
+    module _ (f : Field) (isf : o ≡ Some f) where
+      pub reaches : place + f.size ≤ length l
+      reaches = omega (arith, g.within, fits rack s f (sym iso ∙ isf), ap length is ∙ length-drop place l)
 
-    rest_is : 0 < left → f.read ≡ true → fields_in left rack (drop place l) ≡ f ∷ fields_in (left - 1) f.rack (drop (place + f.size) l)
-    rest_is h e =
-        ap (fields_in left rack) (sym is)
-        ∙ on left rack s h (ap (λ (x : Field). x.read) (sym isf) ∙ e)
-        ∙ ap (λ (x : Field). x ∷ fields_in (left - 1) x.rack (drop x.size s)) (sym isf)
-        ∙ ap (λ (rest : List ℕ). f ∷ fields_in (left - 1) f.rack rest) (ap (drop f.size) is ∙ drop-drop f.size place l)
+      rest_is : 0 < left → fields_in left rack (drop place l) ≡ f ∷ fields_in (left - 1) f.rack (drop (place + f.size) l)
+      rest_is h =
+          ap (fields_in left rack) (sym is)
+          ∙ on left rack s f h (sym iso ∙ isf)
+          ∙ ap (λ (rest : List ℕ). f ∷ fields_in (left - 1) f.rack rest) (ap (drop f.size) is ∙ drop-drop f.size place l)
 
-    pub goes_on : 0 < left → f.read ≡ true → Going r l f.rack (place + f.size) (left - 1)
-    unfolding last_rack size_of_all
-    goes_on h e =
-        let sizes : size_of_all (fields_in left rack (drop place l)) ≡ f.size + size_of_all (fields_in (left - 1) f.rack (drop (place + f.size) l)) = ap size_of_all (rest_is h e) in
-        record {
-          within = reaches;
-          rack_still = g.rack_still ∙ ap (last_rack rack) (rest_is h e);
-          place_still = omega (arith, g.place_still, sizes);
-        }
+      pub goes_on : 0 < left → Going r l f.rack (place + f.size) (left - 1)
+      unfolding last_rack size_of_all
+      goes_on h =
+          let sizes : size_of_all (fields_in left rack (drop place l)) ≡ f.size + size_of_all (fields_in (left - 1) f.rack (drop (place + f.size) l)) = ap size_of_all (rest_is h) in
+          record {
+            within = reaches;
+            rack_still = g.rack_still ∙ ap (last_rack rack) (rest_is h);
+            place_still = omega (arith, g.place_still, sizes);
+          }

@@ -1,29 +1,22 @@
 -- What a field of a night comes to over a rack, and all fields one after the other: the list of answers. docs/NIGHT.md says which fields there are.
-use Rattle.std.specs.Prelude.{ℕ, zero, suc, ◌+◌, ◌≡◌, true, false, cond, List, [], ◌∷◌, length, drop}
+use Rattle.std.specs.Prelude.{ℕ, zero, suc, ◌+◌, ◌≡◌, List, [], ◌∷◌, length, drop, Ok, Err, Option, Some, None, option_map, Result}
 use Rattle.port.specs.Memory.{no_actions}
 use Rattle.rack.specs.declared.Rack.{Rack}
 use Rattle.rack.specs.declared.RackAnswer.{RackAnswer}
 use Rattle.rack.specs.Steps.{event, packet, new_offer, step}
-use Rattle.setup.specs.SetUps.{accepted_set_up}
+use Rattle.setup.specs.SetUps.{accepted_set_up, verdict_of, rack_or_none}
 use Rattle.night.specs.declared.Found.{Found}
 use Rattle.night.specs.Fields.{size_of}
 use Rattle.night.specs.Events.{next_of, behind_of, offer_of}
 use Rattle.night.specs.SetUps.{set_up_in}
 use Rattle.fields.specs.declared.Field.{Field}
 use Rattle.ground.specs.Refusals.{Verdict}
-use Rattle.std.specs.Prelude.{Ok, Err}
-use Rattle.setup.specs.SetUps.{verdict_of, rack_or_none}
-use Rattle.std.specs.Prelude.{is_some, Option, Result}
-use Rattle.night.specs.SetUps.{set_up_or_none}
 use Rattle.setup.specs.declared.SetUp.{SetUp}
 use Rattle.ground.specs.declared.Refusal.{Refusal}
 
--- "Nothing is skipped": what cannot be read changes nothing
-abbrev pub unread : Found → Rack → Field
-unread found r = record { found = found; read = false; verdict = Ok tt; actions = no_actions; rack = r; size = 0 }
-
+-- an event, and the rack's answer to it
 abbrev pub event_field : Found → RackAnswer → ℕ → Field
-event_field found a size = record { found = found; read = true; verdict = a.verdict; actions = a.actions; rack = a.rack; size = size }
+event_field found a size = record { found = found; verdict = a.verdict; actions = a.actions; rack = a.rack; size = size }
 
 -- "A bad one changes nothing"; "the rack before is put away"
 abbrev pub rack_after : Verdict → Rack → Rack → Rack
@@ -31,31 +24,34 @@ rack_after (Ok _) new old = new
 rack_after (Err r) new old = old
 
 abbrev pub started_field : Rack → Result Rack Refusal → ℕ → Field
-started_field r s size = record { found = Found.SetUp; read = true; verdict = verdict_of s; actions = no_actions; rack = rack_after (verdict_of s) (rack_or_none s) r; size = size }
+started_field r s size = record { found = Found.SetUp; verdict = verdict_of s; actions = no_actions; rack = rack_after (verdict_of s) (rack_or_none s) r; size = size }
 
-abbrev pub laid_field : Rack → Option SetUp → ℕ → Field
-laid_field r laid size = cond (is_some laid) (started_field r (accepted_set_up (set_up_or_none laid)) size) (unread Found.SetUp r)
+abbrev pub set_up_field : Rack → List ℕ → ℕ → Option Field
+set_up_field r l size = option_map (λ (u : SetUp). started_field r (accepted_set_up u) size) (set_up_in l)
 
-abbrev pub set_up_field : Rack → List ℕ → ℕ → Field
-set_up_field r l size = laid_field r (set_up_in l) size
-
-abbrev pub field_by : Found → Rack → List ℕ → Field
-field_by Found.Cut r l = unread Found.Cut r
-field_by Found.UnknownTag r l = unread Found.UnknownTag r
-field_by Found.WrongLength r l = unread Found.WrongLength r
+-- "Nothing is skipped": what cannot be read comes to no answer, and changes nothing
+abbrev pub field_by : Found → Rack → List ℕ → Option Field
+field_by Found.Cut r l = None
+field_by Found.UnknownTag r l = None
+field_by Found.WrongLength r l = None
 field_by Found.SetUp r l = set_up_field r l (size_of l)
-field_by (Found.Event number e) r l = event_field (Found.Event number e) (step r number (event e)) (size_of l)
-field_by (Found.Packet number) r l = event_field (Found.Packet number) (step r number (packet (behind_of l))) (size_of l)
-field_by (Found.NewOffer number) r l = event_field (Found.NewOffer number) (step r number (new_offer (offer_of l))) (size_of l)
+field_by (Found.Event number e) r l = Some (event_field (Found.Event number e) (step r number (event e)) (size_of l))
+field_by (Found.Packet number) r l = Some (event_field (Found.Packet number) (step r number (packet (behind_of l))) (size_of l))
+field_by (Found.NewOffer number) r l = Some (event_field (Found.NewOffer number) (step r number (new_offer (offer_of l))) (size_of l))
 
--- THE DEFINITION: what the first field comes to
-unfoldable pub field_of : Rack → List ℕ → Field
+-- THE DEFINITION: what the first field comes to; none where it cannot be read
+unfoldable pub field_of : Rack → List ℕ → Option Field
 field_of r l = field_by (next_of l) r l
+
+-- a field, and those behind it
+abbrev pub and_behind : Option Field → (Field → List Field) → List Field
+and_behind None behind = []
+and_behind (Some f) behind = f ∷ behind f
 
 -- ---- all fields, up to the first that cannot be read; at most so many
 unfoldable pub fields_in : ℕ → Rack → List ℕ → List Field
 fields_in zero r l = []
-fields_in (suc n) r l = cond (field_of r l).read (field_of r l ∷ fields_in n (field_of r l).rack (drop (field_of r l).size l)) []
+fields_in (suc n) r l = and_behind (field_of r l) (λ (f : Field). fields_in n f.rack (drop f.size l))
 
 -- the rack behind them, and how many bytes they have
 unfoldable pub last_rack : Rack → List Field → Rack

@@ -1,10 +1,9 @@
 -- docs/NIGHT.md, "Cut and damaged files": what stands where the reading stopped.
-use Rattle.std.specs.Prelude.{ℕ, Bool, cond, List, eqb, length}
+use Rattle.std.specs.Prelude.{ℕ, Bool, cond, List, eqb, length, is_some}
 use Rattle.night.specs.declared.Found.{Found}
 use Rattle.night.specs.Events.{next_of}
 use Rattle.night.specs.SetUps.{set_up_in}
 use Rattle.fields.specs.declared.Ending.{Ending}
-use Rattle.std.specs.Prelude.{is_some}
 
 -- by what is found, and whether it is a rack group that is laid out as it must be
 abbrev pub ending_by : Found → Bool → Ending

@@ -1,5 +1,6 @@
 -- docs/NIGHT.md: "what is left over of a piece is put in front of the next": the bytes from one place to another, moved to the front of a buffer.
 use Rattle.std.specs.Prelude.{ℕ, ◌-◌, min, ◌≡◌, Bool, true, false, cond, List, ◌++◌, length, take, drop}
+use Rattle.std.specs.Bool.{then_some}
 use Rattle.fields.specs.declared.Ending.{Ending}
 use Rattle.fields.specs.declared.Left.{Left}
 use Rattle.fields.specs.Endings.{ending_of}
@@ -30,7 +31,7 @@ goes_on Ending.NotLaid = false
 goes_on Ending.Readable = true
 
 abbrev pub left_by : Ending → ℕ → Left
-left_by e n = record { ending = e; more = goes_on e; kept = cond (goes_on e) n 0 }
+left_by e n = record { ending = e; kept = then_some (goes_on e) n }
 
 -- THE DEFINITION: what is answered, and the buffer afterwards
 pub record CarriedOver (l : List ℕ) (at end : ℕ) (left : Left) (l' : List ℕ) : Type 0 where

@@ -4,7 +4,7 @@
 #![tactic(auto)]
 
 ghost use Rattle.std.specs.Prelude.{◌≡◌};
-ghost use Rattle.fields.specs.Answers.{rack_after, unread, event_field, started_field, set_up_field, field_of};
+ghost use Rattle.fields.specs.Answers.{event_field, started_field, set_up_field, field_of};
 ghost use Rattle.fields.specs.Endings.{ending_by, ending_of};
 ghost use Rattle.fields.specs.Keeping.{part_in, Kept, goes_on, CarriedOver};
 
@@ -15,12 +15,10 @@ use rack::{Rack, RackAnswer};
 
 pub mod alone;
 
-// What a field comes to.
+// What a field that can be read comes to.
 #[derive(Clone, Copy)]
 pub struct Field {
     pub found: Found,
-    // Whether it can be read; where not, it has no answer, and the rack stays.
-    pub read: bool,
     pub verdict: Verdict,
     pub actions: Actions,
     // The rack afterwards.
@@ -45,23 +43,8 @@ pub enum Ending {
 #[derive(Clone, Copy)]
 pub struct Left {
     pub ending: Ending,
-    // Whether the night may go on with the next piece, and how many bytes are then kept in front of it.
-    pub more: bool,
-    pub kept: usize,
-}
-
-// A field that cannot be read changes nothing, and the reading stays before it.
-fn unread(found: Found, r: Rack) -> Field
-    ensures { result ≡ unread found r }
-{
-    Field {
-        found,
-        read: false,
-        verdict: Ok(()),
-        actions: NO_ACTIONS,
-        rack: r,
-        size: 0,
-    }
+    // Where the night may go on with the next piece: how many bytes are kept in front of it.
+    pub kept: Option<usize>,
 }
 
 // An event and the rack's answer to it.
@@ -70,7 +53,6 @@ fn answered(found: Found, a: RackAnswer, size: usize) -> Field
 {
     Field {
         found,
-        read: true,
         verdict: a.verdict,
         actions: a.actions,
         rack: a.rack,
@@ -88,7 +70,6 @@ fn started(r: Rack, s: Result<Rack, Refusal>, size: usize) -> Field
     };
     Field {
         found: Found::SetUp,
-        read: true,
         verdict,
         actions: NO_ACTIONS,
         rack,
@@ -97,28 +78,28 @@ fn started(r: Rack, s: Result<Rack, Refusal>, size: usize) -> Field
 }
 
 // A set-up that is not laid out as it must be cannot be read.
-fn set_up(r: Rack, s: &[u8], size: usize) -> Field
+fn set_up(r: Rack, s: &[u8], size: usize) -> Option<Field>
     ensures { result ≡ set_up_field r s.now size }
 {
-    match night::set_up(s) {
-        Some(u) => started(r, setup::set_up(u), size),
-        None => unread(Found::SetUp, r),
-    }
+    night::set_up(s).map(|u| started(r, setup::set_up(u), size))
 }
 
-// What the first field of some bytes comes to over a rack.
+// What the first field of some bytes comes to over a rack; none where it cannot be read. Then it changes nothing, and
+// the reading stays before it.
 #[tactic(auto, unfolding(crate::specs::Answers::field_of))]
-pub fn first(r: Rack, s: &[u8]) -> Field
+pub fn first(r: Rack, s: &[u8]) -> Option<Field>
     ensures { result ≡ field_of r s.now }
 {
     let found = night::next(s);
     let size = night::size(s);
     match found {
-        Found::Cut | Found::UnknownTag | Found::WrongLength => unread(found, r),
+        Found::Cut | Found::UnknownTag | Found::WrongLength => None,
         Found::SetUp => set_up(r, s, size),
-        Found::Event(number, e) => answered(found, r.event(number, e), size),
-        Found::Packet(number) => answered(found, r.packet(number, night::behind(s)), size),
-        Found::NewOffer(number) => answered(found, r.new_offer(number, night::offer(s)), size),
+        Found::Event(number, e) => Some(answered(found, r.event(number, e), size)),
+        Found::Packet(number) => Some(answered(found, r.packet(number, night::behind(s)), size)),
+        Found::NewOffer(number) => {
+            Some(answered(found, r.new_offer(number, night::offer(s)), size))
+        }
     }
 }
 
@@ -175,18 +156,13 @@ fn goes_on(e: Ending) -> bool
 pub fn carry_over(buf: &mut [u8], at: usize, end: usize) -> Left
     ensures { CarriedOver buf.old at end result buf.new }
 {
-    let e = ending_of(part(buf, at, end));
-    if goes_on(e) {
-        let n = keep(buf, at, end);
-        return Left {
-            ending: e,
-            more: true,
-            kept: n,
-        };
+    let ending = ending_of(part(buf, at, end));
+    if !goes_on(ending) {
+        return Left { ending, kept: None };
     }
+    let n = keep(buf, at, end);
     Left {
-        ending: e,
-        more: false,
-        kept: 0,
+        ending,
+        kept: Some(n),
     }
 }

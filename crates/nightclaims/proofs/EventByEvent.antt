@@ -2,7 +2,7 @@
 -- rack's own steps through just that list, one for each event, the tally is the tally of those answers, and the rack afterwards is the rack behind the last of them.
 -- So all that is claimed of a rack through any events is claimed of a night. Assumes nothing.
 use Prim.Native.Nat.{ℕ, zero, suc}
-use mathlib.Core.Path.{◌≡◌, refl, sym, ap, ◌∙◌}
+use mathlib.Core.Path.{◌≡◌, refl, sym, ap, subst, ◌∙◌}
 use mathlib.Core.Bool.{Bool, true, false, cond, not, ◌&&◌}
 use mathlib.Core.List.{List, [], ◌∷◌, map}
 use lib.ListN.{drop}
@@ -14,14 +14,15 @@ use Rattle.night.specs.declared.Found.{Found}
 use Rattle.night.specs.Fields.{size_of}
 use Rattle.night.specs.Events.{next_of}
 use Rattle.night.specs.SetUps.{set_up_in}
-use Rattle.fields.specs.Answers.{field_by, field_of, fields_in}
+use Rattle.fields.specs.declared.Field.{Field}
+use Rattle.fields.specs.Answers.{field_by, field_of, and_behind, fields_in}
 use Rattle.tally.specs.declared.Tally.{Tally}
 use Rattle.playing.specs.declared.Played.{Played}
 use Rattle.playing.specs.Nights.{answered, event_done, field_done, is_readable, night_in, is_event, is_set_up, number_in, happening_in}
 use Rattle.nightclaims.specs.Happened.{happens_by, happened_in, no_set_up_in}
 use Rattle.nightclaims.specs.Answered.{Said, said_by, said_in, said_to, tally_of, tallied}
 use Rattle.nightclaims.proofs.FieldByField.{read_same, size_same}
-use Rattle.std.specs.Prelude.{is_some}
+use Rattle.std.specs.Prelude.{Option, Some, None, is_some, IfSome}
 
 -- ---- an event is a step of the rack
 module _ (p : Played) (l : List ℕ) where
@@ -46,7 +47,11 @@ module _ (p : Played) (l : List ℕ) where
   counted (Found.NewOffer number) e = refl
 
 module _ (r : Rack) (l : List ℕ) where
-  said_by_lem : (found : Found) → is_event found ≡ true → said_by (field_by found r l) ≡ said_in (number_in found) (step r (number_in found) (happening_in found l))
+  -- what is said of a field, where there is one
+  abbrev Says : Found → Option Field → Type 0
+  Says found o = IfSome o (λ (f : Field). said_by f ≡ said_in (number_in found) (step r (number_in found) (happening_in found l)))
+
+  said_by_lem : (found : Found) → is_event found ≡ true → Says found (field_by found r l)
   said_by_lem Found.Cut e = true_not_false (sym e)
   said_by_lem Found.UnknownTag e = true_not_false (sym e)
   said_by_lem Found.WrongLength e = true_not_false (sym e)
@@ -55,9 +60,9 @@ module _ (r : Rack) (l : List ℕ) where
   said_by_lem (Found.Packet number) e = refl
   said_by_lem (Found.NewOffer number) e = refl
 
-  said : is_event (next_of l) ≡ true → said_by (field_of r l) ≡ said_in (number_in (next_of l)) (step r (number_in (next_of l)) (happening_in (next_of l) l))
+  said : (f : Field) → field_of r l ≡ Some f → is_event (next_of l) ≡ true → said_by f ≡ said_in (number_in (next_of l)) (step r (number_in (next_of l)) (happening_in (next_of l) l))
   unfolding field_of
-  said = said_by_lem (next_of l)
+  said f is e = subst (Says (next_of l)) is (said_by_lem (next_of l) e)
 
 event_readable : (found : Found) (l : List ℕ) → is_event found ≡ true → is_readable found l ≡ true
 event_readable Found.Cut l e = true_not_false (sym e)
@@ -109,17 +114,33 @@ tally_event_by_event (suc n) p l h =
     ∙ ap (λ (r : Rack). tallied (tally_of p.tally p.rack (number_in (next_of l)) (step p.rack (number_in (next_of l)) (happening_in (next_of l) l))) r (happened_in n (drop (size_of l) l))) (stepped p l (next_of l) e))
     h
 
+-- a field and those behind it are there where it can be read
+where_read : (o : Option Field) (c : Bool) (behind : Field → List Field) → is_some o ≡ c → and_behind o behind ≡ cond c (and_behind o behind) []
+where_read None c behind e = rw (← e) refl
+where_read (Some f) c behind e = rw (← e) refl
+
+-- an event's answer, and those behind it
+one_said : (r : Rack) (l : List ℕ) (o : Option Field) (behind : Field → List Field) (es : List Happens) → o ≡ field_of r l → is_event (next_of l) ≡ true →
+    ((f : Field) → o ≡ Some f → map said_by (behind f) ≡ said_to f.rack es) →
+    map said_by (and_behind o behind) ≡ said_to r (happens_by (next_of l) l ∷ es)
+unfolding said_to
+one_said r l None behind es is e h = true_not_false (sym (ap is_some is ∙ read_same r l ∙ event_readable (next_of l) l e))
+one_said r l (Some f) behind es is e h =
+    ap (λ (rest : List Said). said_by f ∷ rest) (h f refl)
+    ∙ ap (λ (x : Said). x ∷ said_to x.rack es) (said r l f (sym is) e)
+
 -- THE CLAIM: the answers, one for each event
 pub answers_event_by_event : (n : ℕ) (r : Rack) (l : List ℕ) → no_set_up_in n l ≡ true → map said_by (fields_in n r l) ≡ said_to r (happened_in n l)
 unfolding fields_in happened_in no_set_up_in said_to
 answers_event_by_event zero r l h = refl
 answers_event_by_event (suc n) r l h =
-    let f = field_of r l in
-    let rest = fields_in n f.rack (drop f.size l) in
-    ap (λ (c : Bool). map said_by (cond c (f ∷ rest) [])) (read_same r l)
-    ∙ by_field (map said_by) (said_to r) [] (f ∷ rest) l (happened_in n (drop (size_of l) l)) (no_set_up_in n (drop (size_of l) l)) refl (next_of l)
+    let behind : Field → List Field = λ (f : Field). fields_in n f.rack (drop f.size l) in
+    let es = happened_in n (drop (size_of l) l) in
+    ap (map said_by) (where_read (field_of r l) (is_readable (next_of l) l) behind (read_same r l))
+    ∙ by_field (map said_by) (said_to r) [] (and_behind (field_of r l) behind) l es (no_set_up_in n (drop (size_of l) l)) refl (next_of l)
     (λ e more.
-    ap (λ (k : ℕ). said_by f ∷ map said_by (fields_in n f.rack (drop k l))) (size_same r l (event_readable (next_of l) l e))
-    ∙ ap (λ (es : List Said). said_by f ∷ es) (answers_event_by_event n f.rack (drop (size_of l) l) more)
-    ∙ ap (λ (x : Said). x ∷ said_to x.rack (happened_in n (drop (size_of l) l))) (said r l e))
+    one_said r l (field_of r l) behind es refl e
+    (λ f is.
+    ap (λ (k : ℕ). map said_by (fields_in n f.rack (drop k l))) (size_same r l f is)
+    ∙ answers_event_by_event n f.rack (drop (size_of l) l) more))
     h

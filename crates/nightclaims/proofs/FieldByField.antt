@@ -2,19 +2,19 @@
 -- So a program that asks field by field, and one that plays whole pieces, have the same rack and the same place. Assumes nothing.
 use Prim.Native.Nat.{ℕ, zero, suc, ◌+◌}
 use native.Mathlib.Omega.{arith}
-use mathlib.Core.Path.{◌≡◌, refl, sym, ap, ◌∙◌}
-use mathlib.Core.Bool.{Bool, true, false, cond}
+use mathlib.Core.Path.{◌≡◌, refl, sym, ap, subst, ◌∙◌}
+use mathlib.Core.Bool.{Bool, cond}
 use mathlib.Core.List.{List, [], ◌∷◌}
 use lib.ListN.{length, drop}
-use Rattle.portclaims.proofs.Truth.{true_not_false}
 use Rattle.rack.specs.declared.Rack.{Rack}
-use Rattle.setup.specs.SetUps.{accepted_set_up}
+use Rattle.setup.specs.declared.SetUp.{SetUp}
+use Rattle.setup.specs.SetUps.{accepted_set_up, verdict_of, rack_or_none}
 use Rattle.night.specs.declared.Found.{Found}
 use Rattle.night.specs.Fields.{size_of}
 use Rattle.night.specs.Events.{next_of}
-use Rattle.night.specs.SetUps.{set_up_in}
+use Rattle.night.specs.SetUps.{set_up_in, set_up_or_none}
 use Rattle.fields.specs.declared.Field.{Field}
-use Rattle.fields.specs.Answers.{field_by, field_of, fields_in, last_rack, size_of_all, Through}
+use Rattle.fields.specs.Answers.{started_field, field_by, field_of, and_behind, fields_in, last_rack, size_of_all, Through}
 use Rattle.fields.specs.Answers as Fields
 use Rattle.tally.specs.declared.Tally.{Tally}
 use Rattle.playing.specs.declared.Played.{Played}
@@ -22,84 +22,95 @@ use Rattle.playing.specs.Nights.{begun, rack_after, answered, event_done, set_up
 use Rattle.nightclaims.specs.Pieces.{played}
 use Rattle.nightclaims.specs.Answered.{answer_told, answers_told}
 use Rattle.ground.specs.Refusals.{Verdict}
-use Rattle.std.specs.Prelude.{Ok, Err}
-use Rattle.setup.specs.SetUps.{verdict_of, rack_or_none}
-use Rattle.std.specs.Prelude.{is_some}
-use Rattle.night.specs.SetUps.{set_up_or_none}
+use Rattle.std.specs.Prelude.{Ok, Err, Option, Some, None, is_some, option_map, IfSome}
 
 -- ---- one field
 module _ (r : Rack) (l : List ℕ) where
-  laid_read : (c : Bool) (f g : Field) → f.read ≡ true → g.read ≡ false → (cond c f g).read ≡ c
-  laid_read true f g e k = e
-  laid_read false f g e k = k
+  abbrev laid_field : Option SetUp → Option Field
+  laid_field laid = option_map (λ (u : SetUp). started_field r (accepted_set_up u) (size_of l)) laid
 
-  read_by : (found : Found) → (field_by found r l).read ≡ is_readable found l
+  laid_read : (laid : Option SetUp) → is_some (laid_field laid) ≡ is_some laid
+  laid_read None = refl
+  laid_read (Some u) = refl
+
+  read_by : (found : Found) → is_some (field_by found r l) ≡ is_readable found l
   read_by Found.Cut = refl
   read_by Found.UnknownTag = refl
   read_by Found.WrongLength = refl
-  read_by Found.SetUp = laid_read (is_some (set_up_in l)) _ _ refl refl
+  read_by Found.SetUp = laid_read (set_up_in l)
   read_by (Found.Event number e) = refl
   read_by (Found.Packet number) = refl
   read_by (Found.NewOffer number) = refl
 
   -- THE CLAIM: a field is read by the one exactly where it is read by the other
-  pub read_same : (field_of r l).read ≡ is_readable (next_of l) l
+  pub read_same : is_some (field_of r l) ≡ is_readable (next_of l) l
   unfolding field_of
   read_same = read_by (next_of l)
 
-  laid_size : (c : Bool) (f g : Field) → c ≡ true → (cond c f g).size ≡ f.size
-  laid_size true f g e = refl
-  laid_size false f g e = true_not_false (sym e)
+  abbrev Sized : Option Field → Type 0
+  Sized o = IfSome o (λ (f : Field). f.size ≡ size_of l)
 
-  size_by : (found : Found) → is_readable found l ≡ true → (field_by found r l).size ≡ size_of l
-  size_by Found.Cut e = true_not_false (sym e)
-  size_by Found.UnknownTag e = true_not_false (sym e)
-  size_by Found.WrongLength e = true_not_false (sym e)
-  size_by Found.SetUp e = laid_size (is_some (set_up_in l)) _ _ e
-  size_by (Found.Event number x) e = refl
-  size_by (Found.Packet number) e = refl
-  size_by (Found.NewOffer number) e = refl
+  laid_size : (laid : Option SetUp) → Sized (laid_field laid)
+  laid_size None = tt
+  laid_size (Some u) = refl
 
-  pub size_same : is_readable (next_of l) l ≡ true → (field_of r l).size ≡ size_of l
+  size_by : (found : Found) → Sized (field_by found r l)
+  size_by Found.Cut = tt
+  size_by Found.UnknownTag = tt
+  size_by Found.WrongLength = tt
+  size_by Found.SetUp = laid_size (set_up_in l)
+  size_by (Found.Event number x) = refl
+  size_by (Found.Packet number) = refl
+  size_by (Found.NewOffer number) = refl
+
+  pub size_same : (f : Field) → field_of r l ≡ Some f → f.size ≡ size_of l
   unfolding field_of
-  size_same = size_by (next_of l)
+  size_same f e = subst Sized e (size_by (next_of l))
 
 rack_same : (v : Verdict) (new old : Rack) → Fields.rack_after v new old ≡ rack_after v new old
 rack_same (Ok _) new old = refl
 rack_same (Err r) new old = refl
 
 module _ (p : Played) (l : List ℕ) where
-  done_by_lem : (found : Found) → is_readable found l ≡ true → answer_told p (field_by found p.rack l) ≡ field_done found p l
-  unfolding event_done answered set_up_done
-  done_by_lem Found.Cut e = true_not_false (sym e)
-  done_by_lem Found.UnknownTag e = true_not_false (sym e)
-  done_by_lem Found.WrongLength e = true_not_false (sym e)
-  done_by_lem Found.SetUp e = rw (e, rack_same (verdict_of (accepted_set_up (set_up_or_none (set_up_in l)))) (rack_or_none (accepted_set_up (set_up_or_none (set_up_in l)))) p.rack) refl
-  done_by_lem (Found.Event number x) e = refl
-  done_by_lem (Found.Packet number) e = refl
-  done_by_lem (Found.NewOffer number) e = refl
+  abbrev Told : Played → Option Field → Type 0
+  Told q o = IfSome o (λ (f : Field). answer_told p f ≡ q)
+
+  laid_done : (laid : Option SetUp) → Told (set_up_done p (accepted_set_up (set_up_or_none laid)) (size_of l)) (laid_field p.rack l laid)
+  unfolding set_up_done
+  laid_done None = tt
+  laid_done (Some u) = rw (rack_same (verdict_of (accepted_set_up u)) (rack_or_none (accepted_set_up u)) p.rack) refl
+
+  done_by_lem : (found : Found) → Told (field_done found p l) (field_by found p.rack l)
+  unfolding event_done answered
+  done_by_lem Found.Cut = tt
+  done_by_lem Found.UnknownTag = tt
+  done_by_lem Found.WrongLength = tt
+  done_by_lem Found.SetUp = laid_done (set_up_in l)
+  done_by_lem (Found.Event number x) = refl
+  done_by_lem (Found.Packet number) = refl
+  done_by_lem (Found.NewOffer number) = refl
 
   -- THE CLAIM: and its answer, told, is what was played with that field
-  pub done_same : is_readable (next_of l) l ≡ true → answer_told p (field_of p.rack l) ≡ field_done (next_of l) p l
+  pub done_same : (f : Field) → field_of p.rack l ≡ Some f → answer_told p f ≡ field_done (next_of l) p l
   unfolding field_of
-  done_same = done_by_lem (next_of l)
+  done_same f e = subst (Told (field_done (next_of l) p l)) e (done_by_lem (next_of l))
 
 -- ---- all fields
-by_test : (c d : Bool) (q p : Played) (f : Field) (fields : List Field) → d ≡ c → (c ≡ true → q ≡ answers_told (answer_told p f) fields) → cond c q p ≡ answers_told p (cond d (f ∷ fields) [])
+by_field : (o : Option Field) (c : Bool) (q p : Played) (behind : Field → List Field) → is_some o ≡ c → ((f : Field) → o ≡ Some f → q ≡ answers_told (answer_told p f) (behind f)) →
+    cond c q p ≡ answers_told p (and_behind o behind)
 unfolding answers_told
-by_test true d q p f fields e h = rw e (h refl)
-by_test false d q p f fields e h = rw e refl
+by_field None c q p behind e h = rw (← e) refl
+by_field (Some f) c q p behind e h = rw (← e) (h f refl)
 
 -- THE CLAIM
 pub field_by_field : (n : ℕ) (p : Played) (l : List ℕ) → night_in n p l ≡ answers_told p (fields_in n p.rack l)
 unfolding night_in fields_in answers_told
 field_by_field zero p l = refl
 field_by_field (suc n) p l =
-    let f = field_of p.rack l in
-    by_test (is_readable (next_of l) l) f.read _ p f (fields_in n f.rack (drop f.size l)) (read_same p.rack l)
-    (λ e.
-    ap (λ (q : Played). night_in n q (drop (size_of l) l)) (sym (done_same p l e))
-    ∙ ap (λ (k : ℕ). night_in n (answer_told p f) (drop k l)) (sym (size_same p.rack l e))
+    by_field (field_of p.rack l) (is_readable (next_of l) l) _ p (λ (f : Field). fields_in n f.rack (drop f.size l)) (read_same p.rack l)
+    (λ f e.
+    ap (λ (q : Played). night_in n q (drop (size_of l) l)) (sym (done_same p l f e))
+    ∙ ap (λ (k : ℕ). night_in n (answer_told p f) (drop k l)) (sym (size_same p.rack l f e))
     ∙ field_by_field n (answer_told p f) (drop f.size l))
 
 -- ---- a program that asks field by field

@@ -6,7 +6,7 @@ use mathlib.Core.Bool.{true}
 use mathlib.Core.List.{List, ◌++◌}
 use lib.ListN.{length, drop}
 use lib.Seq.{drop-append_seam}
-use Rattle.setup.specs.SetUps.{accepted_set_up}
+use Rattle.setup.specs.SetUps.{accepted_set_up, verdict_of, rack_or_none}
 use Rattle.night.specs.declared.Found.{Found}
 use Rattle.night.specs.Fields.{size_of}
 use Rattle.night.specs.Events.{next_of}
@@ -16,9 +16,7 @@ use Rattle.playing.specs.declared.Played.{Played}
 use Rattle.playing.specs.Nights.{set_up_done, field_done, is_readable}
 use Rattle.nightclaims.specs.Pieces.{played}
 use Rattle.nightclaims.proofs.PiecesChangeNothing.{first_field}
-use Rattle.std.specs.Prelude.{Ok}
-use Rattle.setup.specs.SetUps.{verdict_of, rack_or_none}
-use Rattle.std.specs.Prelude.{is_some, Option}
+use Rattle.std.specs.Prelude.{Ok, is_some, Option}
 use Rattle.setup.specs.declared.SetUp.{SetUp}
 
 module _ (ports : List PortGroup) (supply : ℕ) where

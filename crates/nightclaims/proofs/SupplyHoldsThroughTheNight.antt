@@ -14,14 +14,14 @@ use Rattle.rack.specs.Runs.{Happens, run}
 use Rattle.rack.proofs.Totals.{total_same, total_larger}
 use Rattle.rack.proofs.Loads.{place_in}
 use Rattle.setup.specs.declared.SetUp.{SetUp}
-use Rattle.setup.specs.SetUps.{setting, good_set_up, judged, accepted_set_up}
+use Rattle.setup.specs.SetUps.{setting, good_set_up, judged, accepted_set_up, verdict_of, rack_or_none}
 use Rattle.rackclaims.specs.History.{history, held_by}
 use Rattle.rackclaims.proofs.Reached.{Reached, reached_first, step_reached, ports_are}
 use Rattle.rackclaims.proofs.SupplyHolds as Supply
 use Rattle.night.specs.declared.Found.{Found}
 use Rattle.night.specs.Fields.{size_of}
 use Rattle.night.specs.Events.{next_of}
-use Rattle.night.specs.SetUps.{set_up_in}
+use Rattle.night.specs.SetUps.{set_up_in, set_up_or_none}
 use Rattle.night.specs.Layout.{PortGroup, rack_bytes, set_up_for, Fit}
 use Rattle.playing.specs.declared.Played.{Played}
 use Rattle.playing.specs.Nights.{answered, event_done, rack_after, set_up_done, field_done, is_readable, night_in}
@@ -31,8 +31,6 @@ use Rattle.nightclaims.specs.InSupply.{held_in, InSupply}
 use Rattle.nightclaims.proofs.EventByEvent.{event_by_event}
 use Rattle.nightclaims.proofs.SetUpComesFirst.{set_up_played, set_up_comes_first, its_rack}
 use Rattle.std.specs.Prelude.{Ok}
-use Rattle.setup.specs.SetUps.{verdict_of, rack_or_none}
-use Rattle.night.specs.SetUps.{set_up_or_none}
 
 -- ---- an accepted set-up u, and then events: whatever bytes, as long as no set-up is read
 module _ (u : SetUp)
@@ -118,7 +116,7 @@ event_stands : (r : Rack) (number : ℕ) (h : Happening) → Stands r → Stands
 event_stands r number h (none_yet e) = unfold step in by_number r e number h (in_rack r number) refl
 event_stands r number h (led_to_lem u good k) = led_to_lem u good (step_reached u good r k number h)
 
-by_goodness : (r : Rack) (u : SetUp) (b : Bool) → good_set_up u ≡ b → Stands r → Stands (rack_after (judged b u).verdict (judged b u).rack r)
+by_goodness : (r : Rack) (u : SetUp) (b : Bool) → good_set_up u ≡ b → Stands r → Stands (rack_after (verdict_of (judged b u)) (rack_or_none (judged b u)) r)
 by_goodness r u true e k = led_to_lem u e (reached_first u e)
 by_goodness r u false e k = k
 

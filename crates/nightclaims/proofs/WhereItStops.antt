@@ -25,7 +25,8 @@ use Rattle.nightclaims.specs.Pieces.{played, left_of, read_of}
 use Rattle.nightclaims.proofs.WholeFields.{three_bytes}
 use Rattle.nightclaims.proofs.PiecesChangeNothing.{read_fits, moves_on, first_field, place_is, left_is_left}
 use Rattle.nightclaims.proofs.PlaceCountsOn.{left_at_its_place}
-use Rattle.std.specs.Prelude.{is_some}
+use Rattle.std.specs.Prelude.{Some, is_some}
+use Rattle.fields.proofs.ThenSome.{is_there}
 
 -- ---- why it stops
 abbrev is_that : Ending → Bool
@@ -114,15 +115,14 @@ module _ (l : List ℕ) (place end : ℕ) (h : end ≤ length l) where
       ending_of_what_is_left = ap (λ (x : Left). x.ending) over.answer ∙ ap ending_of left_over
 
       -- THE CLAIM: where the night may go on, what is kept in front is what was left over
-      pub kept_is_left : left.more ≡ true → take left.kept l' ≡ left_of (begun r t) (take end l)
-      kept_is_left m =
+      pub kept_is_left : (kept : ℕ) → left.kept ≡ Some kept → take kept l' ≡ left_of (begun r t) (take end l)
+      kept_is_left kept m =
           let n = kept_count l place end in
           let s = drop place l in
-          let goes : goes_on (ending_of (part_in l place end)) ≡ true = sym (ap (λ (x : Left). x.more) over.answer) ∙ m in
-          let count : left.kept ≡ n = ap (λ (x : Left). x.kept) over.answer ∙ rw goes refl in
+          let (goes, count) = is_there (goes_on (ending_of (part_in l place end))) n kept (sym (ap (λ (x : Left). x.kept) over.answer) ∙ m) in
           let front : l' ≡ at_front l place n = over.bytes ∙ rw goes refl in
           let fits : n ≤ length s = omega (arith, length-drop place l) in
-          ap (λ (k : ℕ). take k l') count
+          ap (λ (k : ℕ). take k l') (sym count)
           ∙ ap (take n) front
           ∙ take-append-le n (take n s) (drop n l) (omega (arith, length-take-le n s fits))
           ∙ take-take n n s (omega arith)
