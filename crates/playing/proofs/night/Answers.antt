@@ -25,8 +25,8 @@ overflow_sub-i c = from_one (rack_in c.loop.slots c.loop.count c.loop.supply) c.
 pub bounds-slots-i : goal.bounds-slots-i
 bounds-slots-i c = omega (arith, place_in_slots (rack_in c.loop.slots c.loop.count c.loop.supply) c.number_in-number.result (sym c.is_in.ensures ∙ c.if-is_in.true))
 
-pub overflow_sub-total : goal.overflow_sub-total
-overflow_sub-total c = omega (arith, (can_weigh c.loop.invariant (omega arith) _ (rest c.loop.at c.args.s.now) c.next-found.result c.next-found.ensures (sym c.is_event.ensures ∙ c.if-is_event.true) c.number_in-number.result c.number_in-number.ensures (sym c.is_in.ensures ∙ c.if-is_in.true) _ refl _ refl).0, c.load-was.ensures)
+pub overflow_sub-beside : goal.overflow_sub-beside
+overflow_sub-beside c = omega (arith, (can_weigh c.loop.invariant (omega arith) _ (rest c.loop.at c.args.s.now) c.next-found.result c.next-found.ensures (sym c.is_event.ensures ∙ c.if-is_event.true) c.number_in-number.result c.number_in-number.ensures (sym c.is_in.ensures ∙ c.if-is_in.true) _ refl _ refl).0, c.load-was.ensures)
 
 pub bounds-slots-i-then-is_in : goal.bounds-slots-i-then-is_in
 bounds-slots-i-then-is_in c = omega (arith, place_in_slots (rack_in c.loop.slots c.loop.count c.loop.supply) c.number_in-number.result (sym c.is_in.ensures ∙ c.if-is_in.true))
