@@ -16,15 +16,6 @@ fn part(line: &mut Line, first: usize) -> fmt::Result {
     write!(line, "; ")
 }
 
-fn put_transmit(line: &mut Line, first: usize, a: &Actions) -> fmt::Result {
-    if a.transmit.length != 0 {
-        part(line, first)?;
-        write!(line, "transmit ")?;
-        line.put_bytes(bytes_of(&a.transmit));
-    }
-    Ok(())
-}
-
 fn put_supply(line: &mut Line, x: Supply) -> fmt::Result {
     match x {
         Supply::Default => write!(line, "supply default"),
@@ -32,8 +23,9 @@ fn put_supply(line: &mut Line, x: Supply) -> fmt::Result {
     }
 }
 
-// The first three actions, and the last three.
-fn put_first_three(line: &mut Line, first: usize, a: &Actions) -> fmt::Result {
+fn put_actions(line: &mut Line, a: &Actions) -> fmt::Result {
+    write!(line, "actions: ")?;
+    let first = line.end;
     if let Some(crc) = &a.good_crc {
         write!(line, "GoodCRC ")?;
         line.put_bytes(crc);
@@ -42,10 +34,11 @@ fn put_first_three(line: &mut Line, first: usize, a: &Actions) -> fmt::Result {
         part(line, first)?;
         write!(line, "stop {timer}")?;
     }
-    put_transmit(line, first, a)
-}
-
-fn put_last_three(line: &mut Line, first: usize, a: &Actions) -> fmt::Result {
+    if a.transmit.length != 0 {
+        part(line, first)?;
+        write!(line, "transmit ")?;
+        line.put_bytes(bytes_of(&a.transmit));
+    }
     if a.hard_reset {
         part(line, first)?;
         write!(line, "signal Hard Reset")?;
@@ -58,14 +51,6 @@ fn put_last_three(line: &mut Line, first: usize, a: &Actions) -> fmt::Result {
         part(line, first)?;
         write!(line, "start {timer}")?;
     }
-    Ok(())
-}
-
-fn put_actions(line: &mut Line, a: &Actions) -> fmt::Result {
-    write!(line, "actions: ")?;
-    let first = line.end;
-    put_first_three(line, first, a)?;
-    put_last_three(line, first, a)?;
     if line.end == first {
         write!(line, "none")?;
     }

@@ -43,12 +43,7 @@ pub fn number_in(word: &[u8], digits: usize) -> Option<u32> {
 }
 
 fn digit_of(c: u8) -> Option<u8> {
-    match c {
-        b'0'..=b'9' => Some(c - b'0'),
-        b'A'..=b'F' => Some(c - b'A' + 10),
-        b'a'..=b'f' => Some(c - b'a' + 10),
-        _ => None,
-    }
+    Some(char::from(c).to_digit(16)? as u8)
 }
 
 fn byte_in(word: &[u8]) -> Option<u8> {
