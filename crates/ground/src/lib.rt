@@ -3,8 +3,11 @@
 // nothing. Its `specs/` and `proofs/` hold the few notions and laws that all layers share.
 #![tactic(auto)]
 
-ghost use Rattle.std.specs.Prelude.{◌≡◌, max, Ok};
+ghost use Rattle.std.specs.Prelude.{◌≡◌, max, Ok, Some};
 ghost use Rattle.ground.specs.Refusals.{number_of, refuse_if};
+ghost use Rattle.ground.specs.Words.{words_of};
+
+use std::fmt;
 
 // The paper's "Refusal numbers", one case for each row, with its number.
 #[derive(Clone, Copy, PartialEq, Eq)]
@@ -30,6 +33,27 @@ pub enum Refusal {
     NotInRack = 9,
     // bad set-up
     BadSetUp = 10,
+}
+
+// The words of docs/PACKETS.md and docs/STEPS.md.
+impl fmt::Display for Refusal {
+    ghost output = { λ r. Some (words_of r) };
+
+    #[tactic(auto, unfolding(crate::specs::Words::words_of))]
+    fn fmt<W: fmt::Write>(&self, f: &mut fmt::Formatter<W>) -> fmt::Result {
+        f.write_str(match self {
+            Refusal::TooShort => "packet under 2 bytes",
+            Refusal::TooLong => "packet over 30 bytes",
+            Refusal::WrongLength => "length is not 2 + 4 x objects, or extended under 4 bytes",
+            Refusal::NotChunked => "extended with Chunked clear, or written without object",
+            Refusal::NoRoom => "too little room from the place on, or place past the end",
+            Refusal::OutOfRange => "a field or the object bytes out of range",
+            Refusal::BadOffer => "bad offer",
+            Refusal::NotAwaited => "the event is not awaited in this state",
+            Refusal::NotInRack => "port number not in the rack",
+            Refusal::BadSetUp => "bad set-up",
+        })
+    }
 }
 
 // What a row of tests comes to: nothing to refuse, or the first refusal in the row.

@@ -2,8 +2,11 @@
 // promises every type's, and "unsupported" for whatever the paper does not name.
 #![tactic(auto)]
 
-ghost use Rattle.std.specs.Prelude.{◌≡◌};
+ghost use Rattle.std.specs.Prelude.{◌≡◌, Some};
 ghost use Rattle.meaning.specs.Meaning.{kind_of, meaning_of};
+ghost use Rattle.meaning.specs.Words.{kind_words, meaning_words};
+
+use std::fmt;
 
 // The three kinds of messages.
 #[derive(Clone, Copy, PartialEq, Eq)]
@@ -11,6 +14,20 @@ pub enum Kind {
     Control,
     Data,
     Extended,
+}
+
+// The words of docs/PACKETS.md.
+impl fmt::Display for Kind {
+    ghost output = { λ x. Some (kind_words x) };
+
+    #[tactic(auto, unfolding(crate::specs::Words::kind_words))]
+    fn fmt<W: fmt::Write>(&self, f: &mut fmt::Formatter<W>) -> fmt::Result {
+        f.write_str(match self {
+            Kind::Control => "control",
+            Kind::Data => "data",
+            Kind::Extended => "extended",
+        })
+    }
 }
 
 // What the states go by. A reply is an Accept, Reject, PS_RDY or Wait.
@@ -23,6 +40,23 @@ pub enum Meaning {
     SoftReset,
     Quiet,
     Request,
+}
+
+impl fmt::Display for Meaning {
+    ghost output = { λ x. Some (meaning_words x) };
+
+    #[tactic(auto, unfolding(crate::specs::Words::meaning_words))]
+    fn fmt<W: fmt::Write>(&self, f: &mut fmt::Formatter<W>) -> fmt::Result {
+        f.write_str(match self {
+            Meaning::Unsupported => "unsupported",
+            Meaning::GoodCrc => "GoodCRC",
+            Meaning::Reply => "reply",
+            Meaning::GetSourceCap => "Get_Source_Cap",
+            Meaning::SoftReset => "Soft_Reset",
+            Meaning::Quiet => "quiet",
+            Meaning::Request => "Request",
+        })
+    }
 }
 
 // Extended set: an extended message; else no objects: control; else data.

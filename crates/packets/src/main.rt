@@ -3,74 +3,45 @@
 #![tactic(auto)]
 
 mod answer;
-mod line;
-mod words;
+mod input;
 
-use line::Line;
-use std::io::{Read, Stdin, Stdout, Write};
+use input::Input;
+use std::io::{Read, Stdout, Write};
+use text::Line;
 
 // Answers a line. An answer that cannot be written is lost, and the next line is gone on with.
-fn respond(mut to: Stdout, l: Line) {
-    let mut out = [0u8; 4096];
-    let n = answer::answer(l, &mut out);
-    if n <= 4096 {
-        let _ = to.write_all(&out[0..n]);
-    }
+fn respond(mut to: Stdout, input: &Input) {
+    let mut buffer = [0; 4096];
+    let mut line = Line::new(&mut buffer);
+    let _ = answer::put_answer(&mut line, input);
+    let _ = to.write_all(line.as_bytes());
 }
 
-// Goes through some input, answers each line that ends in it, and hands back the line that has not
-// ended.
-fn take_in(to: Stdout, begun: Line, input: &[u8]) -> Line {
-    let mut l = begun;
-    let mut i = 0;
-    while i < input.len() {
-        let c = input[i];
+// Goes through a piece of the input, behind the line that has not ended, and answers each line that ends in it.
+fn take_in(to: Stdout, input: &mut Input, piece: &[u8]) {
+    for &c in piece {
         if c == b'\n' {
-            respond(to, l);
-            l = Line::new();
+            respond(to, input);
+            *input = Input::new();
         } else {
-            l = l.with(c);
+            input.push(c);
         }
-        i += 1;
-    }
-    l
-}
-
-#[derive(Clone, Copy)]
-struct Turn {
-    more: bool,
-    line: Line,
-}
-
-// Reads once; no more where the input has ended, or cannot be read on.
-fn read_once(mut from: Stdin, to: Stdout, begun: Line) -> Turn {
-    let mut input = [0u8; 65536];
-    let n = from.read(&mut input).unwrap_or(0);
-    if n == 0 {
-        return Turn {
-            more: false,
-            line: begun,
-        };
-    }
-    Turn {
-        more: true,
-        line: take_in(to, begun, &input[..n]),
     }
 }
 
-// A proved loop has to end, and nothing says that an input does: the turns are counted down from a
-// number that no input uses up.
+// A proved loop has to end, and nothing says that an input does: no input has so many pieces.
 fn main(rt: HostRuntime) {
-    let mut l = Line::new();
-    let mut turns = u64::MAX;
-    let mut more = true;
-    while turns > 0 && more {
-        let t = read_once(rt.stdin(), rt.stdout(), l);
-        l = t.line;
-        more = t.more;
-        turns -= 1;
+    let mut input = Input::new();
+    let mut piece = [0; 65536];
+    for _ in 0..u64::MAX {
+        // No more where the input has ended, or cannot be read on.
+        let n = rt.stdin().read(&mut piece).unwrap_or(0);
+        if n == 0 {
+            break;
+        }
+        take_in(rt.stdout(), &mut input, &piece[..n]);
     }
-    if l.started {
-        respond(rt.stdout(), l);
+    if input.started {
+        respond(rt.stdout(), &input);
     }
 }

@@ -2,10 +2,12 @@
 // It promises what each change does to the three, for every port, and rests on what an offer is.
 #![tactic(auto)]
 
-ghost use Rattle.std.specs.Prelude.{◌≡◌};
+ghost use Rattle.std.specs.Prelude.{◌≡◌, Some};
 ghost use Rattle.power.specs.Power.{none, judges, accepts, comes_into_force, gives_up, changed, by_offer, standing_of};
+ghost use Rattle.power.specs.Words.{change_words};
 
 use offers::{Asked, Offer};
+use std::fmt;
 
 #[derive(Clone, Copy)]
 pub struct Power {
@@ -23,6 +25,21 @@ pub enum Change {
     Accepted,
     InForce,
     GivenUp,
+}
+
+// The words of docs/STEPS.md.
+impl fmt::Display for Change {
+    ghost output = { λ x. Some (change_words x) };
+
+    #[tactic(auto, unfolding(crate::specs::Words::change_words))]
+    fn fmt<W: fmt::Write>(&self, f: &mut fmt::Formatter<W>) -> fmt::Result {
+        f.write_str(match self {
+            Change::Nothing => "nothing",
+            Change::Accepted => "accepted",
+            Change::InForce => "in force",
+            Change::GivenUp => "given up",
+        })
+    }
 }
 
 // How a contract stands to an offer.

@@ -4,12 +4,14 @@
 // `stimuli` and `hearing` say.
 #![tactic(auto)]
 
-ghost use Rattle.std.specs.Prelude.{◌≡◌};
+ghost use Rattle.std.specs.Prelude.{◌≡◌, Some};
 ghost use Rattle.source.specs.declared.State.{State};
 ghost use Rattle.source.specs.States.{code_of, same, listens, awaits_reply, running, stopped};
 ghost use Rattle.source.specs.Changes.{change_of, when_acknowledged, when_supply_ready};
+ghost use Rattle.source.specs.Words.{state_words, timer_words};
 
 use power::{Change, Standing};
+use std::fmt;
 
 // The sixteen states, by the paper's names.
 #[derive(Clone, Copy, PartialEq, Eq)]
@@ -32,12 +34,52 @@ pub enum State {
     Default,
 }
 
+// The words of docs/STEPS.md.
+impl fmt::Display for State {
+    ghost output = { λ x. Some (state_words x) };
+
+    #[tactic(auto, unfolding(crate::specs::Words::state_words))]
+    fn fmt<W: fmt::Write>(&self, f: &mut fmt::Formatter<W>) -> fmt::Result {
+        f.write_str(match self {
+            State::Detached => "Detached",
+            State::Offer => "Offer",
+            State::Discovery => "Discovery",
+            State::Disabled => "Disabled",
+            State::Judge => "Judge",
+            State::Accepting => "Accepting",
+            State::Moving => "Moving",
+            State::Telling => "Telling",
+            State::Ready => "Ready",
+            State::Declining => "Declining",
+            State::Refusing => "Refusing",
+            State::Waiting => "Waiting",
+            State::Soft => "Soft",
+            State::Answering => "Answering",
+            State::Hard => "Hard",
+            State::Default => "Default",
+        })
+    }
+}
+
 // The timers that are started and stopped.
 #[derive(Clone, Copy, PartialEq, Eq)]
 pub enum Timer {
     SenderResponse,
     SourceCapability,
     PsHardReset,
+}
+
+impl fmt::Display for Timer {
+    ghost output = { λ x. Some (timer_words x) };
+
+    #[tactic(auto, unfolding(crate::specs::Words::timer_words))]
+    fn fmt<W: fmt::Write>(&self, f: &mut fmt::Formatter<W>) -> fmt::Result {
+        f.write_str(match self {
+            Timer::SenderResponse => "SenderResponse",
+            Timer::SourceCapability => "SourceCapability",
+            Timer::PsHardReset => "PSHardReset",
+        })
+    }
 }
 
 // What can happen to a port, new packets aside.

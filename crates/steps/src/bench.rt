@@ -1,151 +1,133 @@
 // What stands on the bench, a port and beside it a rack, and what a line does to it.
 use crate::command::Coming;
-use crate::in_hand;
-use crate::rest::Rest;
 use ground::Verdict;
-use offers::Offer;
-use port::{Answer, Event, Port};
-use rack::{Rack, RackAnswer};
-use setup::SetUp;
+use offers::{NO_OFFER, Offer};
+use port::{Actions, Answer, NO_ACTIONS, Port};
+use power::Change;
+use rack::{PORTS, Rack, RackAnswer};
+use setup::{SetUp, Setting};
 
-// The port that stands alone and its limit; the rack, and the set-up in hand for the next one.
-#[derive(Clone, Copy)]
+// The port that stands alone and its limit; the rack, and the set-up in hand for the next one, which is put
+// together line by line.
+#[derive(Drop)]
 pub struct Bench {
     pub port: Port,
-    pub limit: u32,
+    limit: u32,
     pub rack: Rack,
-    pub in_hand: SetUp,
+    in_hand: SetUp,
 }
 
-// What came to the port that stands alone: its answer, and the limit afterwards.
+// What is said of what came, the memory aside.
 #[derive(Clone, Copy)]
-pub struct Step {
-    pub answer: Answer,
-    pub limit: u32,
+pub struct Told {
+    pub verdict: Verdict,
+    pub actions: Actions,
+    pub held: Change,
 }
 
-// A packet's bytes: the first of those that there is room for.
-fn first(bytes: &[u8; 64], count: usize) -> &[u8] {
-    let all: &[u8] = bytes;
-    if count <= all.len() {
-        return &all[0..count];
-    }
-    all
-}
-
-// The rack that there is once a set-up was tried.
-fn rack_after(verdict: Verdict, started: Rack, before: Rack) -> Rack {
-    match verdict {
-        Verdict::Fine => started,
-        Verdict::Refused(_) => before,
+// A set-up with this supply and no port. What its settings say counts for nothing.
+fn begun(supply: u32) -> SetUp {
+    let nobody = Setting {
+        share: 0,
+        limit: 0,
+        offer: NO_OFFER,
+    };
+    SetUp {
+        settings: [nobody; PORTS],
+        count: 0,
+        supply,
     }
 }
 
 impl Bench {
-    // The port that stands there at first: the paper's two objects, 5 V 3 A and 9 V 3 A. A set-up of no
-    // ports is a bad one, and gives the rack that has none.
+    // What stands there at first: a port with the paper's two objects, 5 V 3 A and 9 V 3 A, and no rack.
     pub fn new() -> Bench {
         let offer = Offer {
             objects: [0x0001912C, 0x0002D12C, 0, 0, 0, 0, 0],
             count: 2,
         };
-        let nothing = in_hand::begun(0);
-        let started = setup::set_up(nothing);
-        let rack = started.rack;
         Bench {
             port: Port::new(offer),
             limit: 120000,
-            rack: rack,
-            in_hand: nothing,
+            rack: setup::no_rack(),
+            in_hand: begun(0),
         }
     }
 
     // ---- the port that stands alone
 
+    fn answered(&mut self, a: Answer) -> Told {
+        self.port = a.port;
+        Told {
+            verdict: a.verdict,
+            actions: a.actions,
+            held: a.held,
+        }
+    }
+
     // A new port, if its offer is good. It is given the offer twice, the second time as an event that
     // does nothing; where the offer is bad, the old port refuses it.
-    pub fn new_port(self, r: Rest) -> Step {
-        let limit = r.number;
-        let offer = r.offer();
+    pub fn new_port(&mut self, limit: u32, offer: Offer) -> Told {
         if offers::good(limit, offer) {
-            return Step {
-                answer: Port::new(offer).new_offer(limit, offer),
-                limit: limit,
-            };
+            self.port = Port::new(offer);
+            self.limit = limit;
         }
-        let p = self.port;
-        Step {
-            answer: p.new_offer(limit, offer),
-            limit: self.limit,
-        }
+        self.answered(self.port.new_offer(limit, offer))
     }
 
-    fn answer(self, c: Coming, r: Rest) -> Answer {
-        let bytes = r.bytes;
-        let p = self.port;
-        match c {
-            Coming::Lone(e) => p.event(e),
-            Coming::Packet => p.packet(first(&bytes, r.count)),
-            // An offer. What is unknown is not understood, and so does not come here; it would be refused
-            // as an offer of no objects.
-            _ => p.new_offer(self.limit, r.offer()),
-        }
-    }
-
-    // What comes to the port, with what follows the word.
-    pub fn alone(self, c: Coming, r: Rest) -> Step {
-        Step {
-            answer: self.answer(c, r),
-            limit: self.limit,
-        }
-    }
-
-    pub fn after(mut self, s: Step) -> Bench {
-        let p = s.answer.port;
-        self.port = p;
-        self.limit = s.limit;
-        self
+    // What comes to the port.
+    pub fn alone(&mut self, c: Coming) -> Told {
+        self.answered(match c {
+            Coming::Lone(e) => self.port.event(e),
+            Coming::Packet(bytes) => self.port.packet(bytes.as_slice()),
+            Coming::Offer(offer) => self.port.new_offer(self.limit, offer),
+        })
     }
 
     // ---- the rack
 
+    fn rack_answered(&mut self, a: RackAnswer) -> Told {
+        self.rack = a.rack;
+        Told {
+            verdict: a.verdict,
+            actions: a.actions,
+            held: a.held,
+        }
+    }
+
     // What comes to the port of the rack with this number.
-    pub fn in_rack(self, number: u8, c: Coming, r: Rest) -> RackAnswer {
-        let bytes = r.bytes;
-        let rack = self.rack;
-        match c {
-            Coming::Lone(e) => rack.event(number, e),
-            Coming::Packet => rack.packet(number, first(&bytes, r.count)),
-            // As above.
-            _ => rack.new_offer(number, r.offer()),
+    pub fn in_rack(&mut self, number: u8, c: Coming) -> Told {
+        self.rack_answered(match c {
+            Coming::Lone(e) => self.rack.event(number, e),
+            Coming::Packet(bytes) => self.rack.packet(number, bytes.as_slice()),
+            Coming::Offer(offer) => self.rack.new_offer(number, offer),
+        })
+    }
+
+    // A new set-up is in hand, with this supply and no port.
+    pub fn begin(&mut self, supply: u32) {
+        self.in_hand = begun(supply);
+    }
+
+    // The set-up in hand has one port more. There is no room for one past the last: its number alone is
+    // kept, by which the set-up is a bad one.
+    pub fn place(&mut self, s: Setting) {
+        let count = self.in_hand.count as usize;
+        if count < PORTS {
+            self.in_hand.settings[count] = s;
+            self.in_hand.count += 1;
+        } else {
+            self.in_hand.count = PORTS as u8 + 1;
         }
     }
 
-    // The rack is set up as the set-up in hand says, and stays as it was where that is a bad one. No rack
-    // has a port 0, so that an event there is an answer without actions.
-    pub fn set_up(self) -> RackAnswer {
-        let u = self.in_hand;
-        let started = setup::set_up(u);
-        let verdict = started.verdict;
-        let rack = rack_after(verdict, started.rack, self.rack);
-        let nothing = rack.event(0, Event::Attach);
-        let actions = nothing.actions;
-        let held = nothing.held;
-        RackAnswer {
-            verdict: verdict,
-            rack: rack,
-            actions: actions,
-            held: held,
+    // The rack is set up as the set-up in hand says, and stays as it was where that is a bad one.
+    pub fn set_up(&mut self) -> Told {
+        let verdict = setup::set_up(self.in_hand).map(|rack| self.rack = rack);
+        Told {
+            verdict,
+            actions: NO_ACTIONS,
+            held: Change::Nothing,
         }
-    }
-
-    pub fn with_rack(mut self, rack: Rack) -> Bench {
-        self.rack = rack;
-        self
-    }
-
-    pub fn with_in_hand(mut self, u: SetUp) -> Bench {
-        self.in_hand = u;
-        self
     }
 }

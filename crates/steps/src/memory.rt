@@ -1,117 +1,74 @@
 // A port's memory, as text.
-use crate::words::word;
-use channel::{Channel, Stored};
+use channel::Channel;
 use offers::{Asked, Offer};
 use outgoing::Packet;
 use port::Port;
-use power::{Contract, Power};
-use source::State;
+use power::Power;
+use std::fmt::{self, Write};
+use text::Line;
 
-// The bytes of a packet from a place on.
-fn put_part(out: &mut [u8], at: usize, bytes: &[u8; 30], from: usize, length: u8) -> usize {
-    let all: &[u8] = bytes;
-    let end = length as usize;
-    if from <= end && end <= all.len() {
-        return text::put_bytes(out, at, &all[from..end]);
+// The bytes of a packet, of which none is longer than its 30.
+pub fn bytes_of(m: &Packet) -> &[u8] {
+    &m.bytes[..(m.length as usize).min(30)]
+}
+
+fn yes_or_no(yes: bool) -> &'static str {
+    if yes { "yes" } else { "no" }
+}
+
+fn put_channel(line: &mut Line, c: &Channel) -> fmt::Result {
+    write!(line, ", counter {}", c.counter)?;
+    match c.stored {
+        Some(id) => write!(line, ", stored {id}")?,
+        None => write!(line, ", stored none")?,
     }
-    at
-}
-
-pub fn put_packet(out: &mut [u8], at: usize, m: Packet) -> usize {
-    let bytes = m.bytes;
-    put_part(out, at, &bytes, 0, m.length)
-}
-
-// A name and its number.
-fn put_named(out: &mut [u8], at: usize, name: &[u8], n: u32) -> usize {
-    let named = text::put(out, at, name);
-    text::put_decimal(out, named, n)
-}
-
-fn put_yes(out: &mut [u8], at: usize, name: &[u8], yes: bool) -> usize {
-    let named = text::put(out, at, name);
-    if yes {
-        return text::put(out, named, b"yes");
-    }
-    text::put(out, named, b"no")
-}
-
-fn put_state(out: &mut [u8], at: usize, s: State) -> usize {
-    let words = b"\
-        Detached|Offer|Discovery|Disabled|Judge|Accepting|Moving|Telling\
-        |Ready|Declining|Refusing|Waiting|Soft|Answering|Hard|Default";
-    text::put(out, at, word(words, source::code_of(s)))
-}
-
-fn put_stored(out: &mut [u8], at: usize, s: Stored) -> usize {
-    match s {
-        Stored::Nothing => text::put(out, at, b", stored none"),
-        Stored::Id(id) => put_named(out, at, b", stored ", id as u32),
-    }
-}
-
-fn put_channel(out: &mut [u8], at: usize, c: Channel) -> usize {
-    let stored = c.stored;
-    let m = c.pending.packet;
-    let counted = put_named(out, at, b", counter ", c.counter as u32);
-    let kept = put_stored(out, counted, stored);
-    let begun = text::put(out, kept, b", pending ");
-    let end = put_packet(out, begun, m);
-    put_named(out, end, b", retries ", c.pending.retries as u32)
+    write!(line, ", pending ")?;
+    line.put_bytes(bytes_of(&c.pending.packet));
+    write!(line, ", retries {}", c.pending.retries)
 }
 
 // The objects' bytes as a message of ours has them, behind its header.
-fn put_offer(out: &mut [u8], at: usize, name: &[u8], o: Offer) -> usize {
-    let named = text::put(out, at, name);
-    let objects = o.objects;
-    let m = outgoing::with_objects(0, 0, objects, o.count);
-    let bytes = m.bytes;
-    put_part(out, named, &bytes, 2, m.length)
-}
-
-fn put_asked(out: &mut [u8], at: usize, name: &[u8], a: Asked) -> usize {
-    let position = put_named(out, at, name, a.position as u32);
-    let voltage = put_named(out, position, b" ", a.voltage);
-    let current = put_named(out, voltage, b" ", a.current);
-    put_named(out, current, b" ", a.worth)
-}
-
-fn put_contract(out: &mut [u8], at: usize, c: Contract) -> usize {
-    match c {
-        Contract::Nothing => text::put(out, at, b", contract none"),
-        Contract::Made(a) => put_asked(out, at, b", contract ", a),
+fn put_offer(line: &mut Line, o: Offer) {
+    let m = outgoing::with_objects(0, 0, o.objects, o.count);
+    if let [_, _, objects @ ..] = bytes_of(&m) {
+        line.put_bytes(objects);
     }
 }
 
-fn put_power(out: &mut [u8], at: usize, w: Power) -> usize {
-    let accepted = w.accepted;
-    let contract = w.contract;
-    let asked = put_asked(out, at, b", accepted ", accepted);
-    let agreed = put_contract(out, asked, contract);
-    put_named(out, agreed, b", held ", w.held)
+fn put_offers(line: &mut Line, p: &Port) -> fmt::Result {
+    write!(line, ", newest ")?;
+    put_offer(line, p.newest);
+    write!(line, ", gone out {}, last ", yes_or_no(p.gone_out))?;
+    put_offer(line, p.last);
+    Ok(())
 }
 
-fn put_offers(out: &mut [u8], at: usize, p: Port) -> usize {
-    let newest = p.newest;
-    let last = p.last;
-    let new = put_offer(out, at, b", newest ", newest);
-    let gone = put_yes(out, new, b", gone out ", p.gone_out);
-    put_offer(out, gone, b", last ", last)
+fn put_asked(line: &mut Line, a: Asked) -> fmt::Result {
+    let Asked {
+        position,
+        voltage,
+        current,
+        worth,
+    } = a;
+    write!(line, "{position} {voltage} {current} {worth}")
 }
 
-fn put_count(out: &mut [u8], at: usize, p: Port) -> usize {
-    let counted = put_named(out, at, b", count ", p.count as u32);
-    put_yes(out, counted, b", connected ", p.connected)
+fn put_power(line: &mut Line, w: &Power) -> fmt::Result {
+    write!(line, ", accepted ")?;
+    put_asked(line, w.accepted)?;
+    write!(line, ", contract ")?;
+    match w.contract {
+        Some(a) => put_asked(line, a)?,
+        None => write!(line, "none")?,
+    }
+    write!(line, ", held {}", w.held)
 }
 
-pub fn put_memory(out: &mut [u8], at: usize, p: Port) -> usize {
-    let phase = p.phase;
-    let s = phase.state;
-    let channel = p.channel;
-    let power = p.power;
-    let state = put_state(out, at, s);
-    let sent = put_channel(out, state, channel);
-    let offered = put_offers(out, sent, p);
-    let held = put_power(out, offered, power);
-    put_count(out, held, p)
+pub fn put_memory(line: &mut Line, p: &Port) -> fmt::Result {
+    write!(line, "{}", p.state)?;
+    put_channel(line, &p.channel)?;
+    put_offers(line, p)?;
+    put_power(line, &p.power)?;
+    let connected = yes_or_no(p.connected);
+    write!(line, ", count {}, connected {connected}", p.count)
 }
