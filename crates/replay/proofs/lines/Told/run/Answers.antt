@@ -1,11 +1,10 @@
 -- What is left of the piece, gone through from here, is the whole: so it is at first, a field that a port answers by itself keeps it, as does any other, and
 -- so the contract holds where no turn is left, and where a field cannot be read.
 use Rattle.std.proofs.Common.{arith, rules}
-use borrow.Author.Tests.{not-true, not-false}
 use Rattle.ground.proofs.Parts.{rest}
 use Rattle.fields.proofs.Through.{begins, used_up, reaches, stops, goes_on}
 use Rattle.fields.proofs.PortAlone.{reaches_alone, goes_on_alone}
-use Rattle.replay.proofs.lines.run.Goals as goal
+use Rattle.replay.proofs.lines.Told.run.Goals as goal
 
 pub loop-left-init : goal.loop-left-init
 loop-left-init c = record { short = search rules; going = begins _ _ }
@@ -28,7 +27,7 @@ loop-left-preserved-then-has-x c = record {
 }
 
 pub returns-then-not-f : goal.returns-then-not-f
-returns-then-not-f c = rw (c.reached.ensures.0, c.reached.ensures.1) (stops c.loop-left.invariant.going _ (rest c.loop-left.at c.args.s.now) c.first-f.result c.first-f.ensures (not-true _ c.if-not-f.true))
+returns-then-not-f c = stops c.loop-left.invariant.going _ (rest c.loop-left.at c.args.s.now) c.first-f.result c.first-f.ensures c.if-not-f.true
 
 pub overflow_add-at-in-loop-left : goal.overflow_add-at-in-loop-left
 overflow_add-at-in-loop-left c =
@@ -38,8 +37,8 @@ overflow_add-at-in-loop-left c =
 pub loop-left-preserved : goal.loop-left-preserved
 loop-left-preserved c = record {
   short = c.loop-left.invariant.short;
-  going = goes_on c.loop-left.invariant.going _ (rest c.loop-left.at c.args.s.now) c.first-f.result c.first-f.ensures c.loop-left-test.true (not-false _ c.if-not-f.false);
+  going = goes_on c.loop-left.invariant.going _ (rest c.loop-left.at c.args.s.now) c.first-f.result c.first-f.ensures c.loop-left-test.true c.if-not-f.false;
 }
 
 pub returns : goal.returns
-returns c = rw (c.reached-2.ensures.0, c.reached-2.ensures.1) (used_up c.loop-left.invariant.going c.loop-left-test.false)
+returns c = used_up c.loop-left.invariant.going c.loop-left-test.false
