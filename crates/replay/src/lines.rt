@@ -14,7 +14,7 @@ use rack::{PORTS, Rack};
 use source::State;
 use std::fmt::{self, Write as _};
 use std::io::{Stdout, Write as _};
-use telling::{End, Stand, Table};
+use telling::{End, StateColumn, Table};
 use text::Line;
 
 // The text is written once there is so much of it; a line and a table have room behind that.
@@ -90,7 +90,7 @@ impl<'a> Told<'a> {
         put_what(line, field)?;
         line.put(b" | ");
         put_answer(line, v, a)?;
-        writeln!(line, " | {}", Stand(state))
+        writeln!(line, " | {}", StateColumn(state))
     }
 
     // An event, its answer, and the state that it led to.

@@ -11,7 +11,7 @@ use std::fmt;
 
 mod table;
 
-pub use table::{Stand, Table};
+pub use table::{StateColumn, Table};
 
 // A night is read a piece at a time. In front of a piece stands what is kept of the one before: at most the
 // longest field but for one byte, 65,537 bytes.

@@ -32,7 +32,7 @@ impl fmt::Display for Row<'_> {
         write!(
             f,
             "{} | {} | {} | {} | {}",
-            Stand(Some(slot.port.state)),
+            StateColumn(Some(slot.port.state)),
             Contract(power.contract),
             power.held,
             slot.share,
@@ -65,11 +65,11 @@ impl fmt::Display for Contract {
     }
 }
 
-// The state of a port; a dash where there is no such port.
+// The state of a port, and a dash where there is no such port.
 #[derive(Clone, Copy)]
-pub struct Stand(pub Option<State>);
+pub struct StateColumn(pub Option<State>);
 
-impl fmt::Display for Stand {
+impl fmt::Display for StateColumn {
     fn fmt<W: fmt::Write>(&self, f: &mut fmt::Formatter<W>) -> fmt::Result {
         match self.0 {
             None => f.write_str("-"),
