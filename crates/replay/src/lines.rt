@@ -134,9 +134,8 @@ impl<'a> Told<'a> {
         ensures { Through rack.old s.now rack.new result }
     {
         let mut at: usize = 0;
-        let mut left = s.len();
-        while 0 < left {
-            left -= 1;
+        // There are at most as many fields as bytes, which is why it ends.
+        for _turn in 0..s.len() {
             let field = &s[at..];
             let port = port_of(field);
             let i = slot_of(port);

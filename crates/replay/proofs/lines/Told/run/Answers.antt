@@ -1,44 +1,51 @@
 -- What is left of the piece, gone through from here, is the whole: so it is at first, a field that a port answers by itself keeps it, as does any other, and
 -- so the contract holds where no turn is left, and where a field cannot be read.
-use Rattle.std.proofs.Common.{arith, rules}
+use Rattle.std.proofs.Common.{◌≡◌, ℕ, ◌+◌, ◌-◌, length, arith, rules}
 use Rattle.ground.proofs.Parts.{rest}
 use Rattle.fields.proofs.Through.{begins, used_up, reaches, stops, goes_on}
 use Rattle.fields.proofs.PortAlone.{reaches_alone, goes_on_alone}
 use Rattle.replay.proofs.lines.Told.run.Goals as goal
 
-pub loop-left-init : goal.loop-left-init
-loop-left-init c = record { short = search rules; going = begins _ _ }
+-- the turns that are left
+all_left : (n : ℕ) → n - 0 ≡ n
+all_left n = omega arith
+
+one_less : (n turn : ℕ) → n - (turn + 1) ≡ n - turn - 1
+one_less n turn = omega arith
+
+pub loop-turn-init : goal.loop-turn-init
+loop-turn-init c = record { short = search rules; going = rw (all_left (length c.args.s.now)) (begins _ _) }
 
 pub slice_bounds-field-count : goal.slice_bounds-field-count
-slice_bounds-field-count c = omega (arith, c.loop-left.invariant.short, c.loop-left.invariant.going.within)
+slice_bounds-field-count c = omega (arith, c.loop-turn.invariant.short, c.loop-turn.invariant.going.within)
 
 pub slice_bounds-field-start : goal.slice_bounds-field-start
-slice_bounds-field-start c = omega (arith, c.loop-left.invariant.short, c.loop-left.invariant.going.within)
+slice_bounds-field-start c = omega (arith, c.loop-turn.invariant.short, c.loop-turn.invariant.going.within)
 
 pub overflow_add-at : goal.overflow_add-at
 overflow_add-at c =
-    let fits = reaches_alone c.loop-left.invariant.going _ (rest c.loop-left.at c.args.s.now) _ _ c.slot_of-i.ensures c.at_port-x.result c.at_port-x.ensures c.has.result c.has.ensures c.if-has-x.true in
-    omega (arith, c.loop-left.invariant.short, fits)
+    let fits = reaches_alone c.loop-turn.invariant.going _ (rest c.loop-turn.at c.args.s.now) _ _ c.slot_of-i.ensures c.at_port-x.result c.at_port-x.ensures c.has.result c.has.ensures c.if-has-x.true in
+    omega (arith, c.loop-turn.invariant.short, fits)
 
-pub loop-left-preserved-then-has-x : goal.loop-left-preserved-then-has-x
-loop-left-preserved-then-has-x c = record {
-  short = c.loop-left.invariant.short;
-  going = goes_on_alone c.loop-left.invariant.going _ (rest c.loop-left.at c.args.s.now) _ _ c.slot_of-i.ensures c.at_port-x.result c.at_port-x.ensures c.has.result c.has.ensures c.if-has-x.true c.loop-left-test.true;
+pub loop-turn-preserved-then-has-x : goal.loop-turn-preserved-then-has-x
+loop-turn-preserved-then-has-x c = record {
+  short = c.loop-turn.invariant.short;
+  going = rw (one_less (length c.args.s.now) c.loop-turn._turn) (goes_on_alone c.loop-turn.invariant.going _ (rest c.loop-turn.at c.args.s.now) _ _ c.slot_of-i.ensures c.at_port-x.result c.at_port-x.ensures c.has.result c.has.ensures c.if-has-x.true (omega (arith, c.loop-turn-test.true)));
 }
 
 pub returns-then-not-f : goal.returns-then-not-f
-returns-then-not-f c = stops c.loop-left.invariant.going _ (rest c.loop-left.at c.args.s.now) c.first-f.result c.first-f.ensures c.if-not-f.true
+returns-then-not-f c = stops c.loop-turn.invariant.going _ (rest c.loop-turn.at c.args.s.now) c.first-f.result c.first-f.ensures c.if-not-f.true
 
-pub overflow_add-at-in-loop-left : goal.overflow_add-at-in-loop-left
-overflow_add-at-in-loop-left c =
-    let fits = reaches c.loop-left.invariant.going _ (rest c.loop-left.at c.args.s.now) c.first-f.result c.first-f.ensures in
-    omega (arith, c.loop-left.invariant.short, fits)
+pub overflow_add-at-in-loop-turn : goal.overflow_add-at-in-loop-turn
+overflow_add-at-in-loop-turn c =
+    let fits = reaches c.loop-turn.invariant.going _ (rest c.loop-turn.at c.args.s.now) c.first-f.result c.first-f.ensures in
+    omega (arith, c.loop-turn.invariant.short, fits)
 
-pub loop-left-preserved : goal.loop-left-preserved
-loop-left-preserved c = record {
-  short = c.loop-left.invariant.short;
-  going = goes_on c.loop-left.invariant.going _ (rest c.loop-left.at c.args.s.now) c.first-f.result c.first-f.ensures c.loop-left-test.true c.if-not-f.false;
+pub loop-turn-preserved : goal.loop-turn-preserved
+loop-turn-preserved c = record {
+  short = c.loop-turn.invariant.short;
+  going = rw (one_less (length c.args.s.now) c.loop-turn._turn) (goes_on c.loop-turn.invariant.going _ (rest c.loop-turn.at c.args.s.now) c.first-f.result c.first-f.ensures (omega (arith, c.loop-turn-test.true)) c.if-not-f.false);
 }
 
 pub returns : goal.returns
-returns c = used_up c.loop-left.invariant.going c.loop-left-test.false
+returns c = used_up c.loop-turn.invariant.going (omega (arith, c.loop-turn-test.false))
