@@ -14,8 +14,9 @@ use tally::Tally;
 use telling::{End, Input, PIECE, ROOM, Table};
 use text::Line;
 
-// Reads once, behind the bytes that are kept: how many bytes there are then, unless no more come. `replay` has the
-// same function: no contract can say what a read brings, and one of the rest would be its text again.
+// Reads once, behind the bytes that are kept: how many bytes there are then, unless no more come. `replay`
+// has the same function: no contract can say what a read brings, and one of the rest would be its text
+// again.
 fn read_behind(mut from: Stdin, buf: &mut [u8; ROOM], i: Input) -> Result<usize, End>
     requires { i.kept ≤ 131200 }
     ensures { IfOk result (λ end. end ≤ 131200) }

@@ -13,8 +13,9 @@ use rack::Rack;
 use std::io::{Read, Stderr, Stdin, Write};
 use telling::{End, Input, PIECE, ROOM};
 
-// Reads once, behind the bytes that are kept: how many bytes there are then, unless no more come. `quiet` has the
-// same function: no contract can say what a read brings, and one of the rest would be its text again.
+// Reads once, behind the bytes that are kept: how many bytes there are then, unless no more come. `quiet`
+// has the same function: no contract can say what a read brings, and one of the rest would be its text
+// again.
 fn read_behind(mut from: Stdin, buf: &mut [u8; ROOM], i: Input) -> Result<usize, End>
     requires { i.kept ≤ 131200 }
     ensures { IfOk result (λ end. end ≤ 131200) }
