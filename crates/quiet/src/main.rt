@@ -2,94 +2,83 @@
 // long nights: docs/NIGHT.md has the file, docs/REPLAY.md what is written.
 #![tactic(auto)]
 
+ghost use Rattle.std.specs.Prelude.{◌≤◌, Result, IfOk};
+
 mod counts;
-mod ending;
-mod fill;
-mod input;
-mod table;
 
-use input::{Input, ROOM};
+use counts::Counts;
 use rack::Rack;
-use std::io::{Stderr, Stdin, Stdout, Write};
+use std::fmt::Write as _;
+use std::io::{Read, Stderr, Stdin, Stdout, Write as _};
 use tally::Tally;
+use telling::{End, Input, PIECE, ROOM, Table};
+use text::Line;
 
-#[derive(Clone, Copy)]
-struct Turn {
-    input: Input,
-    rack: Rack,
-    tally: Tally,
-}
-
-fn begun() -> Turn {
-    let rack = input::no_rack();
-    let tally = tally::new();
-    Turn {
-        input: input::begun(),
-        rack: rack,
-        tally: tally,
-    }
-}
-
-// Answers the bytes up to an end.
-fn answered(buf: &mut [u8; ROOM], t: Turn, end: usize) -> Turn {
-    let p = playing::night(t.rack, t.tally, input::part(buf, 0, end));
-    let rack = p.rack;
-    let tally = p.tally;
-    Turn {
-        input: input::after(buf, t.input, p.at, end),
-        rack: rack,
-        tally: tally,
+// Reads once, behind the bytes that are kept: how many bytes there are then, unless no more come. `replay`
+// has the same function: no contract can say what a read brings, and one of the rest would be its text
+// again.
+fn read_behind(mut from: Stdin, buf: &mut [u8; ROOM], i: Input) -> Result<usize, End>
+    requires { i.kept ≤ 131200 }
+    ensures { IfOk result (λ end. end ≤ 131200) }
+{
+    let end = (i.kept + PIECE).min(ROOM);
+    match from.read(&mut buf[i.kept..end]) {
+        Ok(0) => Err(End::Stopped(i.ending, i.place)),
+        Ok(n) => Ok(i.kept + n),
+        Err(_) => Err(End::Unread(i.place.wrapping_add(i.kept as u64))),
     }
 }
 
 // Reads once, and answers what can be answered of it.
-fn once(from: Stdin, buf: &mut [u8; ROOM], t: Turn) -> Turn {
-    let before = t.input;
-    let came = input::read_behind(from, buf, before.kept);
-    if before.kept < came.end {
-        return answered(buf, t, came.end);
-    }
-    let mut last = t;
-    let i = input::over(before, came.failed);
-    last.input = i;
-    last
+fn once(
+    from: Stdin,
+    buf: &mut [u8; ROOM],
+    i: Input,
+    rack: &mut Rack,
+    tally: &mut Tally,
+) -> Result<Input, End>
+    requires { i.kept ≤ 131200 }
+    ensures { IfOk result (λ next. next.kept ≤ 131200) }
+{
+    let end = read_behind(from, buf, i)?;
+    let played = playing::night(*rack, *tally, &buf[..end]);
+    *rack = played.rack;
+    *tally = played.tally;
+    i.answered(buf, played.at, end)
 }
 
-// How the night ended, the counts, and the table.
-fn put_all(out: &mut [u8], t: Turn) -> usize {
-    let i = t.input;
-    let e = i.ending;
-    let ended = ending::put_ending(out, 0, e, i.failed, i.place);
-    let counted = counts::put_counts(out, ended, t.tally);
-    table::put_table(out, counted, t.rack)
-}
-
-// Writes the first so many bytes, and says whether that could be done.
-fn say(mut to: Stdout, out: &[u8], n: usize) -> bool {
-    if n <= out.len() {
-        return to.write_all(&out[0..n]).is_ok();
-    }
-    false
-}
-
-fn finish(to: Stdout, aside: Stderr, t: Turn) {
-    let mut out = [0u8; 4096];
-    let n = put_all(&mut out, t);
-    let written = say(to, &out, n);
-    input::complain(aside, t.input.failed, written);
-}
-
-// A proved loop has to end, and nothing says that an input does: the turns are counted down from a
-// number that no input uses up.
-fn main(rt: HostRuntime) {
+// Answers the night, and hands back how it ended. A proved loop has to end, and nothing says that an input
+// does: no input uses up so many turns.
+fn play(from: Stdin, rack: &mut Rack, tally: &mut Tally) -> End {
     let mut buf = [0u8; ROOM];
-    let mut t = begun();
-    let mut turns = u64::MAX;
-    let mut more = true;
-    while turns > 0 && more {
-        t = once(rt.stdin(), &mut buf, t);
-        more = t.input.more;
-        turns -= 1;
+    let mut input = Input::new();
+    for _turn in 0..u64::MAX {
+        match once(from, &mut buf, input, rack, tally) {
+            Ok(next) => input = next,
+            Err(end) => return end,
+        }
     }
-    finish(rt.stdout(), rt.stderr(), t);
+    End::Stopped(input.ending, input.place)
+}
+
+// How the night ended, the counts, and the table; what failed is said on standard error too.
+fn finish(mut to: Stdout, mut aside: Stderr, end: End, tally: &Tally, rack: &Rack) {
+    let mut buffer = [0u8; 4096];
+    let mut line = Line::new(&mut buffer);
+    // There is room.
+    let _ = write!(line, "{end}{}{}", Counts(tally), Table(rack));
+    let written = to.write_all(line.as_bytes()).is_ok();
+    if matches!(end, End::Unread(_)) {
+        let _ = aside.write_all(b"the night could not be read to its end\n");
+    }
+    if !written {
+        let _ = aside.write_all(b"the answers could not be written\n");
+    }
+}
+
+fn main(rt: HostRuntime) {
+    let mut rack = setup::no_rack();
+    let mut tally = tally::new();
+    let end = play(rt.stdin(), &mut rack, &mut tally);
+    finish(rt.stdout(), rt.stderr(), end, &tally, &rack);
 }

@@ -1,137 +1,73 @@
 // An answer, as a column: its refusal, or its actions.
-use crate::fill::{fill, put_word};
-use ground::Verdict;
+use ground::{Refusal, Verdict};
 use outgoing::Packet;
-use port::{Actions, GoodCrc, Supply};
-use source::Timer;
+use port::{Actions, Supply};
+use std::fmt::{self, Write};
+use text::Line;
 
-fn number_of(v: Verdict) -> u8 {
+fn put_refusal(line: &mut Line, r: Refusal) -> fmt::Result {
+    write!(line, "refused {}, {r}", ground::number(r))
+}
+
+// A verdict without actions.
+pub fn put_verdict(line: &mut Line, v: Verdict) -> fmt::Result {
     match v {
-        Verdict::Fine => 0,
-        Verdict::Refused(r) => ground::number(r),
+        Ok(()) => line.write_str("none"),
+        Err(r) => put_refusal(line, r),
     }
 }
 
-// A verdict by its number: no actions, or a refusal in the words of docs/PACKETS.md and docs/STEPS.md. Writing
-// alone refuses by 5 and 6, and no port does.
-pub fn put_verdict(out: &mut [u8], at: usize, v: Verdict) -> usize {
-    put_word(
-        out,
-        at,
-        b" | none/ | refused 1, packet under 2 bytes/ | refused 2, packet over 30 bytes/ | refused 3, length is not 2 + 4 x objects, or extended under 4 bytes/ | refused 4, extended with Chunked clear, or written without object/ | refused 5/ | refused 6/ | refused 7, bad offer/ | refused 8, the event is not awaited in this state/ | refused 9, port number not in the rack/ | refused 10, bad set-up",
-        number_of(v),
-    )
+// The message to transmit; all bytes that there are where they are said to be more.
+fn bytes_of(m: &Packet) -> &[u8] {
+    &m.bytes[..(m.length as usize).min(m.bytes.len())]
 }
 
-// The first of some bytes; all of them where there are fewer.
-fn first(all: &[u8], count: usize) -> &[u8] {
-    if count <= all.len() {
-        return &all[0..count];
-    }
-    all
-}
-
-// A message under a name; of no bytes, nothing.
-fn put_message(out: &mut [u8], at: usize, name: &[u8], bytes: &[u8]) -> usize {
-    if bytes.len() == 0 {
-        return at;
-    }
-    let named = text::put(out, at, name);
-    let end = text::put_bytes(out, named, bytes);
-    text::put(out, end, b"; ")
-}
-
-fn timer_number(t: Timer) -> u8 {
-    match t {
-        Timer::NoTimer => 0,
-        Timer::SenderResponse => 1,
-        Timer::SourceCapability => 2,
-        Timer::PsHardReset => 3,
-    }
-}
-
-fn bit(set: bool) -> u8 {
-    if set { 1 } else { 0 }
-}
-
-// Which text a supply has, and the position in it.
-fn supply_number(x: Supply) -> u8 {
+fn put_supply(line: &mut Line, x: Supply) -> fmt::Result {
     match x {
-        Supply::Unchanged => 0,
-        Supply::Default => 1,
-        Supply::Position(_) => 2,
+        Supply::Default => line.write_str("supply default; "),
+        Supply::Position(n) => write!(line, "supply {n}; "),
     }
 }
 
-fn position(x: Supply) -> u8 {
-    match x {
-        Supply::Unchanged => 0,
-        Supply::Default => 0,
-        Supply::Position(n) => n,
+// A message under a name.
+fn put_message(line: &mut Line, name: &str, bytes: &[u8]) -> fmt::Result {
+    line.write_str(name)?;
+    line.put_bytes(bytes);
+    line.write_str("; ")
+}
+
+// The actions; the semicolon behind the last is taken back.
+fn put_actions(line: &mut Line, a: Actions) -> fmt::Result {
+    let before = line.end;
+    if let Some(crc) = a.good_crc {
+        put_message(line, "GoodCRC ", &crc)?;
     }
-}
-
-fn put_crc(out: &mut [u8], at: usize, crc: GoodCrc) -> usize {
-    let bytes = crc.bytes;
-    put_message(
-        out,
-        at,
-        b"GoodCRC ",
-        first(&bytes, bit(crc.sent) as usize * 2),
-    )
-}
-
-fn put_transmit(out: &mut [u8], at: usize, m: Packet) -> usize {
-    let bytes = m.bytes;
-    put_message(out, at, b"transmit ", first(&bytes, m.length as usize))
-}
-
-// The first three actions, and the last three, a semicolon behind each.
-fn put_first_three(out: &mut [u8], at: usize, a: Actions) -> usize {
-    let crc = a.good_crc;
-    let stop = a.stop;
-    let m = a.transmit;
-    let timers = b"/stop SenderResponse; /stop SourceCapability; /stop PSHardReset; ";
-    let answered = put_crc(out, at, crc);
-    let stopped = put_word(out, answered, timers, timer_number(stop));
-    put_transmit(out, stopped, m)
-}
-
-fn put_last_three(out: &mut [u8], at: usize, a: Actions) -> usize {
-    let supply = a.supply;
-    let start = a.start;
-    let numbers = [position(supply) as u64];
-    let timers = b"/start SenderResponse; /start SourceCapability; /start PSHardReset; ";
-    let signalled = put_word(out, at, b"/signal Hard Reset; ", bit(a.hard_reset));
-    let supplied = fill(
-        out,
-        signalled,
-        b"/supply default; /supply #; ",
-        supply_number(supply),
-        &numbers,
-    );
-    put_word(out, supplied, timers, timer_number(start))
-}
-
-// The actions, without the semicolon behind the last.
-fn put_actions(out: &mut [u8], at: usize, a: Actions) -> usize {
-    let barred = put_word(out, at, b" | ", 0);
-    let sent = put_first_three(out, barred, a);
-    let end = put_last_three(out, sent, a);
-    if end <= barred {
-        return put_word(out, barred, b"none", 0);
+    if let Some(t) = a.stop {
+        write!(line, "stop {t}; ")?;
     }
-    // An action and its semicolon are longer than two characters; the test shows that the difference fits.
-    if end < 2 {
-        return at;
+    if 0 < a.transmit.length {
+        put_message(line, "transmit ", bytes_of(&a.transmit))?;
     }
-    end - 2
+    if a.hard_reset {
+        line.write_str("signal Hard Reset; ")?;
+    }
+    if let Some(x) = a.supply {
+        put_supply(line, x)?;
+    }
+    if let Some(t) = a.start {
+        write!(line, "start {t}; ")?;
+    }
+    if line.end == before {
+        return line.write_str("none");
+    }
+    line.end = line.end.saturating_sub(2);
+    Ok(())
 }
 
 // The answer to an event.
-pub fn put_answer(out: &mut [u8], at: usize, v: Verdict, a: Actions) -> usize {
+pub fn put_answer(line: &mut Line, v: Verdict, a: Actions) -> fmt::Result {
     match v {
-        Verdict::Fine => put_actions(out, at, a),
-        Verdict::Refused(_) => put_verdict(out, at, v),
+        Ok(()) => put_actions(line, a),
+        Err(r) => put_refusal(line, r),
     }
 }

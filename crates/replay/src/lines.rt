@@ -5,49 +5,22 @@ ghost use Rattle.rack.specs.Ports.{most_ports};
 ghost use Rattle.fields.specs.Answers.{Through};
 
 use crate::answer::{put_answer, put_verdict};
-use crate::fill::{fill, put_word};
-use crate::table::{put_state, put_table, state_of};
 use crate::what::put_what;
 use fields::{Field, alone};
 use ground::Verdict;
 use night::Found;
 use port::Actions;
 use rack::{PORTS, Rack};
-use setup::SetUp;
-use std::io::{Stdout, Write};
-
-// What has been told, and where it is told.
-#[derive(Clone, Copy)]
-pub struct Told {
-    pub to: Stdout,
-    // How many events there were.
-    pub events: u64,
-    // Where the text ends that is not written yet, and whether all before it could be written.
-    pub end: usize,
-    pub written: bool,
-}
-
-// How a night stands within a piece.
-#[derive(Clone, Copy)]
-pub struct Course {
-    pub rack: Rack,
-    // How many bytes of the piece were read.
-    pub at: usize,
-    pub told: Told,
-}
+use source::State;
+use std::fmt::{self, Write as _};
+use std::io::{Stdout, Write as _};
+use telling::{End, StateColumn, Table};
+use text::Line;
 
 // The text is written once there is so much of it; a line and a table have room behind that.
 const MUCH: usize = 61440;
 
 pub const TEXT: usize = 65536;
-
-// Writes the first so many bytes, and says whether that could be done.
-fn say(mut to: Stdout, out: &[u8], n: usize) -> bool {
-    if n <= out.len() {
-        return to.write_all(&out[0..n]).is_ok();
-    }
-    false
-}
 
 // Port 1 has the first slot. The remainder changes no number of a port, and shows that there is a slot for
 // it.
@@ -57,36 +30,12 @@ fn slot_of(port: u8) -> usize
     (port as usize + PORTS - 1) % PORTS
 }
 
-// The number of the state of a port; the number behind the last state where the rack has no such port.
-fn state_in(r: Rack, port: u8) -> u8 {
+// The state of a port of the rack.
+fn state_in(r: &Rack, port: u8) -> Option<State> {
     if r.has(port) {
-        return state_of(r.slots[slot_of(port)]);
+        return Some(r.slots[slot_of(port)].port.state);
     }
-    16
-}
-
-// The answer to an event, and the state of the port afterwards.
-fn put_back(out: &mut [u8], at: usize, v: Verdict, a: Actions, state: u8) -> usize {
-    let answered = put_answer(out, at, v, a);
-    let end = put_state(out, answered, state);
-    put_word(out, end, b"\n", 0)
-}
-
-fn put_set_up(out: &mut [u8], at: usize, u: SetUp, v: Verdict) -> usize {
-    let numbers = [u.count as u64, u.supply as u64];
-    let told = fill(out, at, b"set-up | ports # | supply #", 0, &numbers);
-    let end = put_verdict(out, told, v);
-    put_word(out, end, b"\n", 0)
-}
-
-// Where a set-up is accepted, the table of the rack that it puts away; none where there was no rack.
-fn put_away(out: &mut [u8], at: usize, v: Verdict, r: Rack) -> usize {
-    if let Verdict::Fine = v {
-        if 0 < r.count {
-            return put_table(out, at, r);
-        }
-    }
-    at
+    None
 }
 
 // The number of the port that an event comes to: the first byte behind tag and length.
@@ -94,100 +43,125 @@ fn port_of(field: &[u8]) -> u8 {
     message::byte(field, 3)
 }
 
-impl Told {
-    // Writes the text up to its end, unless some before it could not be written.
-    pub fn say(mut self, out: &[u8]) -> Told {
-        if self.written {
-            self.written = say(self.to, out, self.end);
+// What has been told, and where it is told.
+#[derive(Drop)]
+pub struct Told<'a> {
+    to: Stdout,
+    // The text that is not written yet, and whether all before it could be written.
+    line: Line<'a>,
+    pub written: bool,
+    // How many events there were.
+    events: u64,
+}
+
+impl<'a> Told<'a> {
+    pub fn new(to: Stdout, buffer: &'a mut [u8]) -> Told<'a> {
+        Told {
+            to,
+            line: Line::new(buffer),
+            written: true,
+            events: 0,
         }
-        self.end = 0;
-        self
     }
 
-    // The text goes on to an end, and is written if there is much of it.
-    fn to(mut self, out: &[u8], end: usize) -> Told {
-        self.end = end;
-        if end < MUCH {
-            return self;
+    // Writes the text, unless some before it could not be written.
+    fn say(&mut self) {
+        if self.written {
+            self.written = self.to.write_all(self.line.as_bytes()).is_ok();
         }
-        self.say(out)
+        self.line.end = 0;
+    }
+
+    fn say_much(&mut self) {
+        if MUCH <= self.line.end {
+            self.say();
+        }
+    }
+
+    fn put_event(
+        &mut self,
+        field: &[u8],
+        v: Verdict,
+        a: Actions,
+        state: Option<State>,
+    ) -> fmt::Result {
+        let line = &mut self.line;
+        write!(line, "{} | port {} | ", self.events, port_of(field))?;
+        put_what(line, field)?;
+        line.put(b" | ");
+        put_answer(line, v, a)?;
+        writeln!(line, " | {}", StateColumn(state))
     }
 
     // An event, its answer, and the state that it led to.
-    fn event(mut self, out: &mut [u8], field: &[u8], v: Verdict, a: Actions, state: u8) -> Told {
-        let events = std::num::wrapping_add_u64(self.events, 1);
-        let numbers = [events, port_of(field) as u64];
-        let front = fill(out, self.end, b"# | port # | ", 0, &numbers);
-        let what = put_what(out, front, field);
-        let end = put_back(out, what, v, a, state);
-        self.events = events;
-        self.to(out, end)
+    fn event(&mut self, field: &[u8], v: Verdict, a: Actions, state: Option<State>) {
+        self.events = self.events.wrapping_add(1);
+        // There is room.
+        let _ = self.put_event(field, v, a, state);
+        self.say_much();
     }
 
-    // A set-up; where it is accepted, the table of the rack before it stands first.
-    fn set_up(self, out: &mut [u8], before: Rack, field: &[u8], v: Verdict) -> Told {
-        let laid = night::set_up(field);
-        let u = laid.set_up;
-        let last = put_away(out, self.end, v, before);
-        let end = put_set_up(out, last, u, v);
-        self.to(out, end)
-    }
-
-    // A field that was read, and what it came to.
-    fn field(self, out: &mut [u8], before: Rack, field: &[u8], f: Field) -> Told {
-        let found = f.found;
-        let verdict = f.verdict;
-        if let Found::SetUp = found {
-            return self.set_up(out, before, field, verdict);
+    // A set-up; where it is accepted, the table of the rack before it stands first, if there was one.
+    fn put_set_up(&mut self, before: &Rack, field: &[u8], v: Verdict) -> fmt::Result {
+        let line = &mut self.line;
+        let Some(u) = night::set_up(field) else {
+            return Ok(());
+        };
+        if v.is_ok() && 0 < before.count {
+            write!(line, "{}", Table(before))?;
         }
-        let actions = f.actions;
-        let state = state_in(f.rack, port_of(field));
-        self.event(out, field, verdict, actions, state)
+        write!(line, "set-up | ports {} | supply {} | ", u.count, u.supply)?;
+        put_verdict(line, v)?;
+        line.put(b"\n");
+        Ok(())
     }
-}
 
-fn reached(rack: Rack, at: usize, told: Told) -> Course
-    ensures { (result.rack ≡ rack) × (result.at ≡ at) }
-{
-    Course {
-        rack: rack,
-        at: at,
-        told: told,
+    fn set_up(&mut self, before: &Rack, field: &[u8], v: Verdict) {
+        let _ = self.put_set_up(before, field, v);
+        self.say_much();
     }
-}
 
-// Goes through a piece, up to the first field that cannot be read. A port that answers by itself is stepped
-// in its place: to hand the whole rack on and back takes longer than most answers.
-pub fn run(out: &mut [u8], r: Rack, t: Told, s: &[u8]) -> Course
-    ensures { Through r s.now result.rack result.at }
-{
-    let mut rack = r;
-    let mut told = t;
-    let mut at: usize = 0;
-    let mut left = s.len();
-    while 0 < left {
-        left -= 1;
-        let field = &s[at..];
-        let port = port_of(field);
-        let i = slot_of(port);
-        let x = alone::at_port(rack.slots[i], port, field);
-        if rack.has(port) & x.settled {
-            at += x.size;
-            let verdict = x.verdict;
-            let actions = x.actions;
-            let u = x.slot;
-            rack.slots[i] = u;
-            told = told.event(out, field, verdict, actions, state_of(u));
-            continue;
+    // A field that was read, over the rack before it.
+    fn field(&mut self, field: &[u8], before: &Rack, f: &Field, port: u8) {
+        match f.found {
+            Found::SetUp => self.set_up(before, field, f.verdict),
+            _ => self.event(field, f.verdict, f.actions, state_in(&f.rack, port)),
         }
-        let f = fields::first(rack, field);
-        if !f.read {
-            return reached(rack, at, told);
-        }
-        at += f.size;
-        told = told.field(out, rack, field, f);
-        let next = f.rack;
-        rack = next;
     }
-    reached(rack, at, told)
+
+    // How the night ended, and the table.
+    pub fn finish(&mut self, end: End, rack: &Rack) {
+        let _ = write!(self.line, "{end}{}", Table(rack));
+        self.say();
+    }
+
+    // Goes through a piece, up to the first field that cannot be read, and hands back its place. A port that
+    // answers by itself is stepped in its place: to hand the whole rack on and back takes longer than most
+    // answers.
+    pub fn run(&mut self, rack: &mut Rack, s: &[u8]) -> usize
+        ensures { Through rack.old s.now rack.new result }
+    {
+        let mut at: usize = 0;
+        // There are at most as many fields as bytes, which is why it ends.
+        for _turn in 0..s.len() {
+            let field = &s[at..];
+            let port = port_of(field);
+            let i = slot_of(port);
+            if let Some(x) = alone::at_port(rack.slots[i], port, field)
+                && rack.has(port)
+            {
+                at += x.size;
+                rack.slots[i] = x.slot;
+                self.event(field, x.verdict, x.actions, Some(x.slot.port.state));
+                continue;
+            }
+            let Some(f) = fields::first(*rack, field) else {
+                return at;
+            };
+            at += f.size;
+            self.field(field, rack, &f, port);
+            *rack = f.rack;
+        }
+        at
+    }
 }

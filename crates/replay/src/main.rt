@@ -2,89 +2,78 @@
 // end. docs/NIGHT.md has the file, docs/REPLAY.md what is written.
 #![tactic(auto)]
 
+ghost use Rattle.std.specs.Prelude.{◌≤◌, Result, IfOk};
+
 mod answer;
-mod ending;
-mod fill;
-mod input;
 mod lines;
-mod table;
 mod what;
 
-use input::{Input, ROOM};
 use lines::{TEXT, Told};
 use rack::Rack;
-use std::io::{Stderr, Stdin, Stdout};
+use std::io::{Read, Stderr, Stdin, Write};
+use telling::{End, Input, PIECE, ROOM};
 
-#[derive(Clone, Copy)]
-struct Turn {
-    input: Input,
-    rack: Rack,
-    told: Told,
-}
-
-fn begun(to: Stdout) -> Turn {
-    let rack = input::no_rack();
-    let told = Told {
-        to,
-        events: 0,
-        end: 0,
-        written: true,
-    };
-    Turn {
-        input: input::begun(),
-        rack: rack,
-        told: told,
-    }
-}
-
-// Answers the bytes up to an end.
-fn answered(buf: &mut [u8; ROOM], out: &mut [u8; TEXT], t: Turn, end: usize) -> Turn {
-    let reached = lines::run(out, t.rack, t.told, input::part(buf, 0, end));
-    let rack = reached.rack;
-    let told = reached.told;
-    Turn {
-        input: input::after(buf, t.input, reached.at, end),
-        rack: rack,
-        told: told,
+// Reads once, behind the bytes that are kept: how many bytes there are then, unless no more come. `quiet`
+// has the same function: no contract can say what a read brings, and one of the rest would be its text
+// again.
+fn read_behind(mut from: Stdin, buf: &mut [u8; ROOM], i: Input) -> Result<usize, End>
+    requires { i.kept ≤ 131200 }
+    ensures { IfOk result (λ end. end ≤ 131200) }
+{
+    let end = (i.kept + PIECE).min(ROOM);
+    match from.read(&mut buf[i.kept..end]) {
+        Ok(0) => Err(End::Stopped(i.ending, i.place)),
+        Ok(n) => Ok(i.kept + n),
+        Err(_) => Err(End::Unread(i.place.wrapping_add(i.kept as u64))),
     }
 }
 
 // Reads once, and answers what can be answered of it.
-fn once(from: Stdin, buf: &mut [u8; ROOM], out: &mut [u8; TEXT], t: Turn) -> Turn {
-    let before = t.input;
-    let came = input::read_behind(from, buf, before.kept);
-    if before.kept < came.end {
-        return answered(buf, out, t, came.end);
-    }
-    let mut last = t;
-    let i = input::over(before, came.failed);
-    last.input = i;
-    last
+fn once(
+    from: Stdin,
+    buf: &mut [u8; ROOM],
+    i: Input,
+    rack: &mut Rack,
+    told: &mut Told,
+) -> Result<Input, End>
+    requires { i.kept ≤ 131200 }
+    ensures { IfOk result (λ next. next.kept ≤ 131200) }
+{
+    let end = read_behind(from, buf, i)?;
+    let at = told.run(rack, &buf[..end]);
+    i.answered(buf, at, end)
 }
 
-// How the night ended, and the table.
-fn finish(aside: Stderr, out: &mut [u8; TEXT], t: Turn) {
-    let i = t.input;
-    let mut told = t.told;
-    let e = i.ending;
-    let ended = ending::put_ending(out, told.end, e, i.failed, i.place);
-    told.end = table::put_table(out, ended, t.rack);
-    let last = told.say(out);
-    input::complain(aside, i.failed, last.written);
-}
-
-// A proved loop has to end, and nothing says that an input does: the turns are counted down from a
-// number that no input uses up.
-fn main(rt: HostRuntime) {
+// Answers the night, and hands back how it ended. A proved loop has to end, and nothing says that an input
+// does: no input uses up so many turns.
+fn play(from: Stdin, rack: &mut Rack, told: &mut Told) -> End {
     let mut buf = [0u8; ROOM];
-    let mut out = [0u8; TEXT];
-    let mut t = begun(rt.stdout());
-    let mut turns = u64::MAX;
-    let mut more = true;
-    while turns > 0 && more {
-        t = once(rt.stdin(), &mut buf, &mut out, t);
-        more = t.input.more & t.told.written;
-        turns -= 1;
+    let mut input = Input::new();
+    for _turn in 0..u64::MAX {
+        match once(from, &mut buf, input, rack, told) {
+            Ok(next) if told.written => input = next,
+            Ok(next) => return End::Stopped(next.ending, next.place),
+            Err(end) => return end,
+        }
     }
-    finish(rt.stderr(), &mut out, t);
+    End::Stopped(input.ending, input.place)
+}
+
+// What failed is said on standard error too.
+fn complain(mut to: Stderr, end: End, written: bool) {
+    if matches!(end, End::Unread(_)) {
+        let _ = to.write_all(b"the night could not be read to its end\n");
+    }
+    if !written {
+        let _ = to.write_all(b"the answers could not be written\n");
+    }
+}
+
+fn main(rt: HostRuntime) {
+    let mut out = [0u8; TEXT];
+    let mut told = Told::new(rt.stdout(), &mut out);
+    let mut rack = setup::no_rack();
+    let end = play(rt.stdin(), &mut rack, &mut told);
+    told.finish(end, &rack);
+    complain(rt.stderr(), end, told.written);
 }

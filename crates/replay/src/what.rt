@@ -1,41 +1,42 @@
 // What came to a port, in the words of docs/STEPS.md.
-use crate::fill::{fill, put_word};
+use night::Found;
+use port::Event;
+use std::fmt::{self, Write};
+use text::Line;
 
-const PACKET: u8 = 34;
-
-const NEW_OFFER: u8 = 41;
-
-// How many bytes or objects there are, where they are too many to be told one by one.
-fn put_many(out: &mut [u8], at: usize, words: &[u8], n: usize) -> usize {
-    let many = [n as u64];
-    fill(out, at, words, 0, &many)
+fn name(e: Event) -> &'static str {
+    match e {
+        Event::Attach => "attach",
+        Event::Detach => "detach",
+        Event::HardReset => "hardreset",
+        Event::Acknowledgement => "acknowledgement",
+        Event::SenderResponse => "senderresponse",
+        Event::SourceCapability => "sourcecapability",
+        Event::PsHardReset => "pshardreset",
+        Event::SupplyReady => "supplyready",
+        Event::Yes => "yes",
+        Event::No => "no",
+    }
 }
 
-// An event by its tag. The events' tags begin at 32, and so the remainder counts them from 0.
-fn put_event(out: &mut [u8], at: usize, tag: u8) -> usize {
-    put_word(
-        out,
-        at,
-        b"attach/detach/packet /hardreset/acknowledgement/senderresponse/sourcecapability/pshardreset/supplyready/offer /yes/no",
-        tag % 32,
-    )
+// Bytes under a name.
+fn put_bytes(line: &mut Line, name: &str, bytes: &[u8]) -> fmt::Result {
+    line.write_str(name)?;
+    line.put_bytes(bytes);
+    Ok(())
 }
 
 // The event of a field. A packet and a new offer are told with their bytes, unless there are more than a
 // packet or an offer can have.
-pub fn put_what(out: &mut [u8], at: usize, field: &[u8]) -> usize {
-    let tag = message::byte(field, 0);
+pub fn put_what(line: &mut Line, field: &[u8]) -> fmt::Result {
     let bytes = night::behind(field);
     let n = bytes.len();
-    if (tag == PACKET) & (30 < n) {
-        return put_many(out, at, b"packet of # bytes", n);
+    match night::next(field) {
+        Found::Event(_, e) => line.write_str(name(e)),
+        Found::Packet(_) if 30 < n => write!(line, "packet of {n} bytes"),
+        Found::Packet(_) => put_bytes(line, "packet ", bytes),
+        Found::NewOffer(_) if 28 < n => write!(line, "offer of {} objects", n / 4),
+        Found::NewOffer(_) => put_bytes(line, "offer ", bytes),
+        Found::Cut | Found::UnknownTag | Found::WrongLength | Found::SetUp => Ok(()),
     }
-    if (tag == NEW_OFFER) & (28 < n) {
-        return put_many(out, at, b"offer of # objects", n / 4);
-    }
-    let named = put_event(out, at, tag);
-    if (tag == PACKET) | (tag == NEW_OFFER) {
-        return text::put_bytes(out, named, bytes);
-    }
-    named
 }
