@@ -1,12 +1,11 @@
 -- "Protocol rules": counter, stored MessageID and pending message of a channel, and what is done to them.
-use Rattle.std.specs.Prelude.{ℕ, ◌+◌, ◌%◌, Bool, true, false, cond, ltb, eqb}
+use Rattle.std.specs.Prelude.{ℕ, ◌+◌, ◌%◌, Bool, true, false, cond, ltb, eqb, Some, None, Option}
 use Rattle.message.specs.Header.{fields_of}
 use Rattle.message.specs.Bytes.{word_of}
 use Rattle.outgoing.specs.declared.Packet.{Packet}
 use Rattle.outgoing.specs.Packets.{no_packet}
 use Rattle.channel.specs.declared.Pending.{Pending}
 use Rattle.channel.specs.declared.Channel.{Channel}
-use Rattle.std.specs.Prelude.{Some, None, Option}
 
 abbrev pub is_pending : Channel → Bool
 is_pending c = ltb 0 c.pending.packet.length

@@ -21,10 +21,9 @@ use Rattle.rack.specs.Steps.{Happening, event, packet, new_offer, own_answer, an
 use Rattle.demands.specs.Ours.{ours}
 use Rattle.demands.specs.Fitting.{both_compared, is_request, judged_by, read_by, own_by, mismatch_in, sets_mismatch}
 use Rattle.demands.specs.WrongPrograms.{hears_no_mismatch}
-use Rattle.std.specs.Prelude.{Err, Result}
+use Rattle.std.specs.Prelude.{Err, Result, Ok}
 use Rattle.reading.specs.declared.Message.{Message}
 use Rattle.ground.specs.declared.Refusal.{Refusal}
-use Rattle.std.specs.Prelude.{Ok}
 
 -- ---- one Request, one packet, one event
 fit_as_before : (request : Bool) (count r : ℕ) (o : Offer) → (request && is_mismatch r) ≡ false → judged_by both_compared request count r o ≡ fit_of count r o

@@ -13,7 +13,7 @@ use Rattle.rack.specs.Ports.{in_rack, place_of, others}
 use Rattle.rack.specs.Steps.{Happening, answer_at, if_in_rack, refused_by, step}
 use Rattle.rack.specs.Runs.{Happens, run_by}
 use Rattle.setup.specs.declared.SetUp.{SetUp}
-use Rattle.setup.specs.SetUps.{good_set_up, judged, accepted_set_up}
+use Rattle.setup.specs.SetUps.{good_set_up, judged, accepted_set_up, rack_or_none}
 use Rattle.rackclaims.specs.NightDesk as Desk
 use Rattle.rackclaims.specs.History.{history_by}
 use Rattle.rackclaims.proofs.Neighbours.{count_stays}
@@ -23,7 +23,6 @@ use Rattle.demands.specs.Limits.{answer_up_to}
 use Rattle.demands.specs.WrongPrograms.{stays_at_eight_ports}
 use Rattle.demands.proofs.AnswerAlike.{Alike, lead_alike}
 use Rattle.demands.proofs.SmallRacks.{same_judgement, same_ports}
-use Rattle.setup.specs.SetUps.{rack_or_none}
 
 -- ---- a set-up
 -- THE CLAIM: of any set-up of at most 8 ports and 1,600,000 units

@@ -9,7 +9,7 @@ use lib.ListN.{length}
 use Rattle.message.specs.declared.Fields.{Fields}
 use Rattle.message.specs.Bytes.{bytes_of}
 use Rattle.meaning.specs.declared.Meaning.{Meaning}
-use Rattle.reading.specs.Reading.{read_of, part_of}
+use Rattle.reading.specs.Reading.{read_of, part_of, message_with}
 use Rattle.reading.proofs.ReadsExactlyMessages.{read_is, part_is, bytes_are}
 use Rattle.writing.specs.Writing.{Wrote, writing_tried}
 use Rattle.writing.proofs.Fine.{writable, fine}
@@ -28,7 +28,7 @@ use Rattle.rack.specs.Ports.{at, total, others, power_rule}
 use Rattle.rack.specs.Steps.{Happening, packet, call_of, answer_at, turned, step}
 use Rattle.rack.specs.Runs.{Happens, run}
 use Rattle.setup.specs.declared.SetUp.{SetUp}
-use Rattle.setup.specs.SetUps.{setting, good_set_up, accepted_set_up}
+use Rattle.setup.specs.SetUps.{setting, good_set_up, accepted_set_up, verdict_of, rack_or_none}
 use Rattle.rackclaims.specs.Wire.{is_accept}
 use Rattle.rackclaims.specs.History.{held_by}
 use Rattle.rackclaims.proofs.GoodSetUps.{accepted_is_good}
@@ -44,9 +44,7 @@ use Rattle.demands.specs.Ours.{ours}
 use Rattle.demands.specs.Demand2.{ReadAndWritten, StepsByTheRules, Acceptable, AcceptsExactly, RepeatsChangeNothing, NothingDroppedIsRetried, Demand2}
 use Rattle.demands.proofs.WrittenReadsBack as Written
 use Rattle.demands.proofs.ReadWritesBack as Read
-use Rattle.reading.specs.Reading.{message_with}
 use Rattle.std.specs.Prelude.{Ok}
-use Rattle.setup.specs.SetUps.{verdict_of, rack_or_none}
 
 -- ---- messages
 wrote : (f : Fields) (o buf : List ℕ) (place : ℕ) → Wrote f o buf place (ours.write f o buf place) (ours.buffer f o buf place)

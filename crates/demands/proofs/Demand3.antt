@@ -10,7 +10,7 @@ use Rattle.rack.specs.Ports.{at}
 use Rattle.rack.specs.Steps.{Happening, packet, answer_at, turned, step}
 use Rattle.rack.specs.Runs.{Happens, run}
 use Rattle.setup.specs.declared.SetUp.{SetUp}
-use Rattle.setup.specs.SetUps.{accepted_set_up}
+use Rattle.setup.specs.SetUps.{accepted_set_up, verdict_of, rack_or_none}
 use Rattle.rackclaims.specs.Wire.{is_accept}
 use Rattle.rackclaims.specs.Told.{told_of}
 use Rattle.rackclaims.proofs.GoodSetUps.{accepted_is_good}
@@ -22,7 +22,6 @@ use Rattle.rackclaims.proofs.AcceptOnTheWire.{accept_is_sent}
 use Rattle.demands.specs.Ours.{ours}
 use Rattle.demands.specs.Demand3.{SupplyHolds, ShareIsGranted, HistoryIsTrue, Demand3}
 use Rattle.std.specs.Prelude.{Ok}
-use Rattle.setup.specs.SetUps.{verdict_of, rack_or_none}
 
 module _ (u : SetUp) (accepted : verdict_of (accepted_set_up u) ≡ Ok tt) (es : List Happens) where
   supply : SupplyHolds ours u es

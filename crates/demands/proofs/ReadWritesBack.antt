@@ -9,12 +9,11 @@ use Rattle.ground.specs.declared.Refusal.TheVariants.{OutOfRange}
 use Rattle.message.specs.declared.Fields.{Fields}
 use Rattle.message.specs.Bytes.{AreBytes}
 use Rattle.message.proofs.Bytes.{length_bytes}
-use Rattle.reading.specs.Reading.{read_of, part_of}
+use Rattle.reading.specs.Reading.{read_of, part_of, message_with}
 use Rattle.reading.proofs.ReadsExactlyMessages.{is_sound, bytes_are}
 use Rattle.ground.specs.Buffers.{laid}
 use Rattle.writing.specs.Writing.{Wrote, Writable}
 use Rattle.writing.proofs.Fine.{fine, reserved}
-use Rattle.reading.specs.Reading.{message_with}
 use Rattle.std.specs.Prelude.{Ok, Err, Result}
 use Rattle.ground.specs.declared.Refusal.{Refusal}
 

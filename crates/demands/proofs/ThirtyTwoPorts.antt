@@ -18,11 +18,10 @@ use Rattle.port.specs.Calls as Port
 use Rattle.slot.specs.Answers.{settled}
 use Rattle.rack.specs.Steps.{event, answer_at, step}
 use Rattle.setup.specs.declared.SetUp.{SetUp}
-use Rattle.setup.specs.SetUps.{good_setting, good_set_up, accepted_set_up}
+use Rattle.setup.specs.SetUps.{good_setting, good_set_up, accepted_set_up, verdict_of, rack_or_none}
 use Rattle.demands.specs.Ours.{ours}
 use Rattle.ground.specs.Refusals.{Verdict}
 use Rattle.std.specs.Prelude.{Ok, Err}
-use Rattle.setup.specs.SetUps.{verdict_of, rack_or_none}
 
 -- 5 V, 9 V, 10 V, 12 V, 15 V, 18 V and 20 V, each with 5 A
 abbrev seven_objects : Offer

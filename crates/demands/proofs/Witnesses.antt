@@ -12,10 +12,9 @@ use Rattle.message.specs.declared.Fields.{Fields}
 use Rattle.message.specs.Header.{fields_of, objects_of, header_of, Fits}
 use Rattle.message.specs.Bytes.{AreBytes, bytes_of, word_of, is_chunked}
 use Rattle.message.proofs.Bytes.{are_bytes}
-use Rattle.reading.specs.Reading.{read_of, reading_tried, part_of}
+use Rattle.reading.specs.Reading.{read_of, reading_tried, part_of, message_with}
 use Rattle.writing.specs.Writing.{Wrote, Writable, writing_tried}
 use Rattle.writing.proofs.Fine.{writable}
-use Rattle.reading.specs.Reading.{message_with}
 use Rattle.std.specs.Prelude.{Ok, Err}
 
 abbrev packet : List ℕ

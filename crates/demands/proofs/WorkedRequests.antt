@@ -12,7 +12,7 @@ use Rattle.message.specs.Header.{fields_of, objects_of, header_of}
 use Rattle.message.specs.Bytes.{word_of, is_chunked, bytes_of}
 use Rattle.meaning.specs.declared.Meaning.{Meaning}
 use Rattle.meaning.specs.Meaning.{meaning_of}
-use Rattle.reading.specs.Reading.{read_of, reading_tried, part_of}
+use Rattle.reading.specs.Reading.{read_of, reading_tried, part_of, message_with}
 use Rattle.offers.specs.Objects.{position_of, is_mismatch, operating_of, maximum_of}
 use Rattle.offers.specs.Offers.{object_at, good_object, good_from, good_offer}
 use Rattle.offers.specs.Requests.{operating_fits, maximum_fits, fits, asked, fit_of}
@@ -44,7 +44,6 @@ use Rattle.demands.specs.Ours.{ours}
 use Rattle.demands.specs.Demand2.{Acceptable}
 use Rattle.demands.specs.StarredExamples.{answer_of}
 use Rattle.demands.specs.Fitting.{sets_mismatch, NoneSetsIt}
-use Rattle.reading.specs.Reading.{message_with}
 
 -- what came before, and the rack as it then is
 abbrev events : List Happens

@@ -9,14 +9,14 @@ use lib.Dec.{leb, ltb, eqb}
 use lib.ListN.{length}
 use borrow.Author.Tests.{leb-true, le-leb, eq-eqb}
 use Rattle.ground.specs.declared.Refusal.TheVariants.{OutOfRange}
-use Rattle.ground.specs.Refusals.{refuse_if, any_of}
+use Rattle.ground.specs.Refusals.{refuse_if, any_of, Verdict}
 use Rattle.message.specs.declared.Fields.{Fields}
 use Rattle.message.specs.Header.{fields_of, objects_of, header_of}
 use Rattle.message.specs.Bytes.{word_of, is_chunked, bytes_of}
 use Rattle.message.proofs.Bytes.{are_bytes}
 use Rattle.meaning.specs.declared.Meaning.{Meaning}
 use Rattle.meaning.specs.Meaning.{meaning_of}
-use Rattle.reading.specs.Reading.{read_of, reading_tried, part_of}
+use Rattle.reading.specs.Reading.{read_of, reading_tried, part_of, message_with}
 use Rattle.writing.specs.Writing.{writing_tried}
 use Rattle.offers.specs.Offers.{object_at, good_object, good_from, good_offer}
 use Rattle.offers.specs.Requests.{fits, asked, fit_of, is_honoured}
@@ -49,7 +49,7 @@ use Rattle.rack.specs.Ports.{at, total, others}
 use Rattle.rack.specs.Steps.{Happening, event, packet, call_of, turned, answer_at, step}
 use Rattle.rack.specs.Runs.{Happens, run_by}
 use Rattle.setup.specs.declared.SetUp.{SetUp}
-use Rattle.setup.specs.SetUps.{setting, good_setting, good_set_up, rack_of, accepted_set_up}
+use Rattle.setup.specs.SetUps.{setting, good_setting, good_set_up, rack_of, accepted_set_up, verdict_of}
 use Rattle.rackclaims.specs.NightDesk as Desk
 use Rattle.rackclaims.specs.Wire.{is_offer, is_accept}
 use Rattle.rackclaims.specs.History.{history_by, held_by}
@@ -62,10 +62,7 @@ use Rattle.demands.specs.Demand3.{Demand3}
 use Rattle.demands.specs.WrongPrograms as Wrong
 use Rattle.demands.proofs.WorkedRequests.{first, wanting, drawing}
 use Rattle.demands.proofs.ThirtyTwoPorts as Large
-use Rattle.ground.specs.Refusals.{Verdict}
-use Rattle.reading.specs.Reading.{message_with}
 use Rattle.std.specs.Prelude.{Ok, Err}
-use Rattle.setup.specs.SetUps.{verdict_of}
 
 -- ---- the night desk, and what came to it
 abbrev u : SetUp

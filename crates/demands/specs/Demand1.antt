@@ -1,6 +1,6 @@
 -- DEMAND 1. "Every packet and every event gets an answer, whatever came before. A refusal carries its number from the table, and no port, no held power and no
 -- lent byte is different afterwards."
-use Rattle.std.specs.Prelude.{ℕ, ◌≡◌, true, false, List, [], length}
+use Rattle.std.specs.Prelude.{ℕ, ◌≡◌, true, false, List, [], length, Ok, Err}
 use Rattle.ground.specs.declared.Refusal.{Refusal}
 use Rattle.ground.specs.declared.Refusal.TheVariants.{BadSetUp}
 use Rattle.message.specs.declared.Fields.{Fields}
@@ -11,11 +11,9 @@ use Rattle.port.specs.Memory.{no_actions}
 use Rattle.rack.specs.declared.Rack.{Rack}
 use Rattle.rack.specs.Steps.{Happening}
 use Rattle.setup.specs.declared.SetUp.{SetUp}
-use Rattle.setup.specs.SetUps.{good_set_up, rack_of, no_rack}
+use Rattle.setup.specs.SetUps.{good_set_up, rack_of, no_rack, verdict_of, rack_or_none}
 use Rattle.rackclaims.specs.Verdicts.{verdict_in}
 use Rattle.demands.specs.Programs.{Program}
-use Rattle.std.specs.Prelude.{Ok, Err}
-use Rattle.setup.specs.SetUps.{verdict_of, rack_or_none}
 
 pub record Demand1 (P : Program) : Type 0 where
   -- every event gets an answer, whatever came before, so in any rack: the table's number where the table gives one ("9, then 1 to 4 or 7, then 8"), else it is fine

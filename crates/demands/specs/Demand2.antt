@@ -2,7 +2,7 @@
 -- the Source rules say. An Accept answers a new Request exactly when it comes awaited or in Ready, fits the last offer put on the wire, and the power rule
 -- approves. While a port listens, a readable packet that repeats the last stored MessageID, Soft_Reset and GoodCRC aside, gets its GoodCRC again and changes
 -- nothing. A message once dropped isn't retried."
-use Rattle.std.specs.Prelude.{ℕ, suc, max, ◌+◌, ◌-◌, ◌/◌, ◌<◌, ◌≤◌, ◌≡◌, true, false, cond, List, eqb, length, take, drop}
+use Rattle.std.specs.Prelude.{ℕ, suc, max, ◌+◌, ◌-◌, ◌/◌, ◌<◌, ◌≤◌, ◌≡◌, true, false, cond, List, eqb, length, take, drop, Ok, Err}
 use Rattle.ground.specs.declared.Refusal.TheVariants.{OutOfRange}
 use Rattle.ground.specs.Buffers.{laid}
 use Rattle.message.specs.declared.Fields.{Fields}
@@ -32,7 +32,6 @@ use Rattle.rackclaims.specs.Wire.{is_accept}
 use Rattle.rackclaims.specs.History.{held_by}
 use Rattle.demands.specs.Programs.{Program, rack_now, history, AtAnyPort}
 use Rattle.reading.specs.Reading.{message_with}
-use Rattle.std.specs.Prelude.{Ok, Err}
 
 -- ---- "Messages are read and written as USB PD R3.2 lays them out, each undoing the other (the reserved revision is read, never written)"
 pub record ReadAndWritten (P : Program) : Type 0 where

@@ -2,7 +2,7 @@
 -- limit, and what a port hasn't taken of its share stays free for it. A new Request that comes awaited or in Ready, fits the last offer and asks no more than the
 -- port's share is accepted, whatever the other ports did. Held power is reckoned from what was accepted, put in force and given up (the history), not from sums
 -- the program keeps."
-use Rattle.std.specs.Prelude.{ℕ, suc, max, ◌<◌, ◌≤◌, ◌≡◌, true, false, List}
+use Rattle.std.specs.Prelude.{ℕ, suc, max, ◌<◌, ◌≤◌, ◌≡◌, true, false, List, Ok}
 use Rattle.message.specs.declared.Fields.{Fields}
 use Rattle.meaning.specs.declared.Meaning.{Meaning}
 use Rattle.offers.specs.Requests.{fits, asked}
@@ -17,14 +17,12 @@ use Rattle.rack.specs.Ports.{at, total}
 use Rattle.rack.specs.Steps.{Happening, packet}
 use Rattle.rack.specs.Runs.{Happens}
 use Rattle.setup.specs.declared.SetUp.{SetUp}
-use Rattle.setup.specs.SetUps.{setting}
+use Rattle.setup.specs.SetUps.{setting, verdict_of}
 use Rattle.rackclaims.specs.Wire.{is_accept}
 use Rattle.rackclaims.specs.History.{held_by}
 use Rattle.rackclaims.specs.Told.{told_of}
 use Rattle.demands.specs.Programs.{Program, rack_now, history, AtAnyPort}
 use Rattle.reading.specs.Reading.{message_with}
-use Rattle.std.specs.Prelude.{Ok}
-use Rattle.setup.specs.SetUps.{verdict_of}
 
 module _ (P : Program) (u : SetUp) (es : List Happens) where
   -- held power, by the history of the port at a place

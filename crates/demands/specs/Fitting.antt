@@ -1,5 +1,5 @@
 -- Programs that judge a Request by another rule than "fits", and answer everything else as ours does: so the rule of before request 01 can be set beside ours.
-use Rattle.std.specs.Prelude.{ℕ, ◌≡◌, Bool, true, false, cond, ◌&&◌, List, [], ◌∷◌}
+use Rattle.std.specs.Prelude.{ℕ, ◌≡◌, Bool, true, false, cond, ◌&&◌, List, [], ◌∷◌, Ok, Err, Option, Result}
 use Rattle.ground.specs.declared.Refusal.TheVariants.{NotInRack}
 use Rattle.meaning.specs.declared.Meaning.{Meaning}
 use Rattle.reading.specs.Reading.{read_of, part_of}
@@ -15,7 +15,6 @@ use Rattle.rack.specs.declared.Rack.{Rack}
 use Rattle.rack.specs.Ports.{at, in_rack, place_of, others}
 use Rattle.rack.specs.Steps.{Happening, event, packet, new_offer, own_answer, turned, refused_by}
 use Rattle.rack.specs.Runs.{Happens, Stepping}
-use Rattle.std.specs.Prelude.{Ok, Err, Option, Result}
 use Rattle.reading.specs.declared.Message.{Message}
 use Rattle.ground.specs.declared.Refusal.{Refusal}
 use Rattle.offers.specs.declared.Asked.{Asked}

@@ -1,5 +1,5 @@
 -- Programs with other limits than ours, and in all else ours: so the rack of before request 08, of at most 8 ports and 1,600,000 units, can be set beside it.
-use Rattle.std.specs.Prelude.{ℕ, min, Bool, cond, ◌&&◌, leb, eqb}
+use Rattle.std.specs.Prelude.{ℕ, min, Bool, cond, ◌&&◌, leb, eqb, Result}
 use Rattle.ground.specs.declared.Refusal.TheVariants.{NotInRack}
 use Rattle.slot.specs.Load.{load_of}
 use Rattle.slot.specs.Answers.{settled}
@@ -10,7 +10,6 @@ use Rattle.rack.specs.Steps.{Happening, own_answer, turned, refused_by}
 use Rattle.rack.specs.Runs.{Stepping}
 use Rattle.setup.specs.declared.SetUp.{SetUp}
 use Rattle.setup.specs.SetUps.{least, setting, good_setting, everywhere, shares, judged}
-use Rattle.std.specs.Prelude.{Result}
 use Rattle.ground.specs.declared.Refusal.{Refusal}
 
 -- ---- a rack of at most so many ports

@@ -1,8 +1,7 @@
 -- What the claims about packets say, in plain terms.
 use Rattle.std.specs.Prelude.{ℕ, ◌+◌, ◌/◌, ◌<◌, ◌≤◌, ◌≡◌, List, length, get_or}
 use Rattle.message.specs.declared.Fields.{Fields}
-use Rattle.reading.specs.Reading.{read_of, part_of}
-use Rattle.reading.specs.Reading.{message_with}
+use Rattle.reading.specs.Reading.{read_of, part_of, message_with}
 
 -- the bytes s read as a message with these fields and these object bytes
 pub record ReadsAs (s : List ℕ) (f : Fields) (o : List ℕ) : Type 0 where

@@ -1,12 +1,11 @@
 -- A program over the paper's memory, whatever it answers to each call. The three demands are said of any such program: ours is one that meets them, and wrong ones
 -- are shown to miss them.
-use Rattle.std.specs.Prelude.{ℕ, ◌<◌, ◌≡◌, List}
+use Rattle.std.specs.Prelude.{ℕ, ◌<◌, ◌≡◌, List, Ok, Result}
 use Rattle.message.specs.declared.Fields.{Fields}
 use Rattle.rack.specs.declared.Rack.{Rack}
 use Rattle.rack.specs.Runs.{Stepping, Happens, run_by}
 use Rattle.setup.specs.declared.SetUp.{SetUp}
 use Rattle.rackclaims.specs.History.{Entry, history_by}
-use Rattle.std.specs.Prelude.{Ok, Result}
 use Rattle.reading.specs.declared.Message.{Message}
 use Rattle.ground.specs.declared.Refusal.{Refusal}
 use Rattle.setup.specs.SetUps.{verdict_of, rack_or_none}

@@ -1,5 +1,5 @@
 -- "Night-desk examples": the starred ones in one table, and what each says.
-use Rattle.std.specs.Prelude.{ℕ, max, ◌+◌, ◌≡◌, Bool, true, false, cond, List, [], ◌∷◌, replicate}
+use Rattle.std.specs.Prelude.{ℕ, max, ◌+◌, ◌≡◌, Bool, true, false, cond, List, [], ◌∷◌, replicate, Ok, Err, Result}
 use Rattle.ground.specs.Refusals.{number_of}
 use Rattle.message.specs.Types as Types
 use Rattle.message.specs.Header.{header_of}
@@ -18,7 +18,6 @@ use Rattle.rack.specs.declared.Rack.{Rack}
 use Rattle.rack.specs.Ports.{at, place_of, others, power_rule}
 use Rattle.rack.specs.Steps as Rack
 use Rattle.rackclaims.specs.NightDesk.{Asking, rack_after, for120000, for54000, for36000, for36180}
-use Rattle.std.specs.Prelude.{Ok, Err, Result}
 use Rattle.reading.specs.declared.Message.{Message}
 use Rattle.ground.specs.declared.Refusal.{Refusal}
 

@@ -1,5 +1,5 @@
 -- "What may not be left loose": wrong programs, to be tried against the demands. Each is ours but for one lie, after which it is named.
-use Rattle.std.specs.Prelude.{ℕ, max, ◌+◌, Bool, true, false, cond, ◌&&◌, ◌||◌, [], leb, eqb}
+use Rattle.std.specs.Prelude.{ℕ, max, ◌+◌, Bool, true, false, cond, ◌&&◌, ◌||◌, [], leb, eqb, Ok}
 use Rattle.ground.specs.declared.Refusal.TheVariants.{NotAwaited, NotInRack}
 use Rattle.message.specs.Types as Types
 use Rattle.offers.specs.Objects.{position_of, is_mismatch}
@@ -28,7 +28,6 @@ use Rattle.demands.specs.Ours.{ours}
 use Rattle.demands.specs.Limits.{stepped_up_to, set_up_up_to}
 use Rattle.demands.specs.Fitting.{both_compared, fitting_by}
 use Rattle.reading.specs.Reading.{message_with}
-use Rattle.std.specs.Prelude.{Ok}
 
 -- ours, stepped in another way
 abbrev stepped_by : Stepping → Program

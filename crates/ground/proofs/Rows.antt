@@ -5,8 +5,7 @@ use mathlib.Core.List.{List, [], ◌∷◌}
 use lib.Dec.{T}
 use borrow.Author.Tests.{not-false}
 use Rattle.ground.specs.declared.Refusal.{Refusal}
-use Rattle.ground.specs.Refusals.{refuse_if, any_of}
-use Rattle.ground.specs.Refusals.{Verdict}
+use Rattle.ground.specs.Refusals.{refuse_if, any_of, Verdict}
 use Rattle.std.specs.Prelude.{Ok, Err}
 
 pub passed : (t : Bool) (r : Refusal) (v : Verdict) → refuse_if t r v ≡ Ok tt → (t ≡ false) × (v ≡ Ok tt)

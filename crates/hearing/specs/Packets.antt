@@ -1,10 +1,9 @@
 -- "The Source states": where a new packet leads each state. Soft_Reset leads to Answering "in every listening state not named otherwise".
-use Rattle.std.specs.Prelude.{ℕ, Bool, cond, List, [], ◌∷◌, eqb}
+use Rattle.std.specs.Prelude.{ℕ, Bool, cond, List, [], ◌∷◌, eqb, Some, None, Option}
 use Rattle.source.specs.declared.State.{State}
 use Rattle.source.specs.declared.Heard.{Heard}
 use Rattle.source.specs.declared.Heard.TheVariants.{FittingRequest, OtherRequest, OtherReply, Quiet}
 use Rattle.source.specs.declared.Way.{Way}
-use Rattle.std.specs.Prelude.{Some, None, Option}
 
 -- kinds of packets told apart
 abbrev pub heard_code : Heard → ℕ

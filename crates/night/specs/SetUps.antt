@@ -1,12 +1,11 @@
 -- docs/NIGHT.md, "The set-up": a rack group is its port groups, in the order of the ports' numbers, and then the supply; a port group is share, limit and
 -- offer objects.
-use Rattle.std.specs.Prelude.{ℕ, zero, suc, ◌+◌, ◌-◌, ◌%◌, min, Bool, cond, ◌&&◌, List, leb, ltb, eqb, length, drop, set, replicate}
+use Rattle.std.specs.Prelude.{ℕ, zero, suc, ◌+◌, ◌-◌, ◌%◌, min, Bool, cond, ◌&&◌, List, leb, ltb, eqb, length, drop, set, replicate, Some, None, Option}
 use Rattle.port.specs.Memory.{no_offer}
 use Rattle.rack.specs.Ports.{most_ports}
 use Rattle.setup.specs.declared.Setting.{Setting}
 use Rattle.setup.specs.declared.SetUp.{SetUp}
 use Rattle.night.specs.Fields.{tag_of, length_of, size_of, value_of, number_at, offer_in}
-use Rattle.std.specs.Prelude.{Some, None, Option}
 
 -- whether a field's tag and length stand at a place
 unfoldable pub head_is : List ℕ → ℕ → ℕ → ℕ → Bool

@@ -1,12 +1,11 @@
 -- "A Request fits if it has one object, the position is 1 to the last offer's count, and operating and maximum operating current are both
 -- at most the object's current." Request 01: "with bit 26 set only the operating current is compared." And what it asks; and whether an
 -- offer still has what was agreed.
-use Rattle.std.specs.Prelude.{ℕ, ◌*◌, Bool, true, false, ◌&&◌, ◌||◌, leb, eqb}
+use Rattle.std.specs.Prelude.{ℕ, ◌*◌, Bool, true, false, ◌&&◌, ◌||◌, leb, eqb, Some, None, Option}
 use Rattle.offers.specs.declared.Offer.{Offer}
 use Rattle.offers.specs.declared.Asked.{Asked}
 use Rattle.offers.specs.Objects.{voltage_of, current_of, position_of, is_mismatch, operating_of, maximum_of}
 use Rattle.offers.specs.Offers.{has, object_at}
-use Rattle.std.specs.Prelude.{Some, None, Option}
 
 -- the object that a Request names
 abbrev pub named : ℕ → Offer → ℕ

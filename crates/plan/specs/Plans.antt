@@ -1,6 +1,6 @@
 -- A port's step in two: what is decided, for which the port is only read, and what is done, all at once. `proofs/SameAsStepping` shows that the two are the
 -- port's step with the power answer in it; nobody has to believe the definitions here.
-use Rattle.std.specs.Prelude.{ℕ, Bool, true, false, cond, not, ◌&&◌, List}
+use Rattle.std.specs.Prelude.{ℕ, Bool, true, false, cond, not, ◌&&◌, List, Some, None, Ok, Err, Option, Result}
 use Rattle.ground.specs.declared.Refusal.{Refusal}
 use Rattle.ground.specs.declared.Refusal.TheVariants.{BadOffer, NotAwaited}
 use Rattle.message.specs.declared.Fields.{Fields}
@@ -39,7 +39,6 @@ use Rattle.plan.specs.declared.Prior.{Prior}
 use Rattle.plan.specs.declared.Cue.{Cue}
 use Rattle.plan.specs.declared.Met.{Met}
 use Rattle.plan.specs.declared.Plan.{Plan}
-use Rattle.std.specs.Prelude.{Some, None, Ok, Err, Option, Result}
 use Rattle.reading.specs.declared.Message.{Message}
 
 -- ---- what comes to a port, once the protocol rules have been asked

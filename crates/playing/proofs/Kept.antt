@@ -20,7 +20,7 @@ use Rattle.rack.specs.declared.Rack.{Rack}
 use Rattle.rack.specs.Ports.{most_ports, nobody, at, ports_in, in_rack, place_of, loads, others, put}
 use Rattle.rack.specs.Steps.{Happening, answer_at, turned, refused_by, step}
 use Rattle.rack.proofs.Loads.{place_in, place_in_slots, all_but_this}
-use Rattle.setup.specs.SetUps.{accepted_set_up}
+use Rattle.setup.specs.SetUps.{accepted_set_up, verdict_of, rack_or_none}
 use Rattle.night.specs.declared.Found.{Found}
 use Rattle.night.specs.Fields.{size_of, is_whole}
 use Rattle.night.specs.Events.{next_of}
@@ -31,13 +31,9 @@ use Rattle.playing.specs.declared.Played.{Played}
 use Rattle.playing.specs.Nights.{begun, answered, event_done, rack_after, set_up_done, field_done, is_readable, night_in, is_event, is_set_up, number_in, happening_in, stepped_by}
 use Rattle.playing.specs.Meeting.{held_by, Small}
 use Rattle.playing.proofs.Sums.{rack_in, weighs, small_still, sum_still}
-use Rattle.std.specs.Prelude.{Ok, Err}
-use Rattle.setup.specs.SetUps.{verdict_of}
-use Rattle.std.specs.Prelude.{is_some, Result}
+use Rattle.std.specs.Prelude.{Ok, Err, is_some, Result, Some}
 use Rattle.ground.specs.declared.Refusal.{Refusal}
-use Rattle.setup.specs.SetUps.{rack_or_none}
 use Rattle.setup.specs.declared.SetUp.{SetUp}
-use Rattle.std.specs.Prelude.{Some}
 
 -- ---- one field of the definition
 read_on : (n : ℕ) (p : Played) (l : List ℕ) → 0 < n → is_readable (next_of l) l ≡ true → night_in n p l ≡ night_in (n - 1) (field_done (next_of l) p l) (drop (size_of l) l)

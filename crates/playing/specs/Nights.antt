@@ -1,6 +1,6 @@
 -- A night played over a rack, field by field: each event is a step of the rack, each good set-up gives a rack anew. docs/NIGHT.md says which fields there are,
 -- docs/REPLAY.md what is counted.
-use Rattle.std.specs.Prelude.{ℕ, zero, suc, ◌+◌, Bool, true, false, cond, List, drop}
+use Rattle.std.specs.Prelude.{ℕ, zero, suc, ◌+◌, Bool, true, false, cond, List, drop, Ok, Err, is_some, Result}
 use Rattle.source.specs.declared.State.{State}
 use Rattle.port.specs.declared.Answer.{Answer}
 use Rattle.port.specs.declared.Event.{Event}
@@ -12,20 +12,16 @@ use Rattle.rack.specs.declared.Rack.{Rack}
 use Rattle.rack.specs.declared.RackAnswer.{RackAnswer}
 use Rattle.rack.specs.Ports.{at, in_rack, place_of}
 use Rattle.rack.specs.Steps.{Happening, event, packet, new_offer, call_of, step}
-use Rattle.setup.specs.SetUps.{accepted_set_up}
+use Rattle.setup.specs.SetUps.{accepted_set_up, verdict_of, rack_or_none}
 use Rattle.night.specs.declared.Found.{Found}
 use Rattle.night.specs.Fields.{size_of}
 use Rattle.night.specs.Events.{next_of, behind_of, offer_of}
-use Rattle.night.specs.SetUps.{set_up_in}
+use Rattle.night.specs.SetUps.{set_up_in, set_up_or_none}
 use Rattle.tally.specs.declared.Tally.{Tally}
 use Rattle.tally.specs.Counts.{told, set_up_told}
 use Rattle.playing.specs.declared.Played.{Played}
 use Rattle.ground.specs.Refusals.{Verdict}
-use Rattle.std.specs.Prelude.{Ok, Err}
-use Rattle.std.specs.Prelude.{is_some, Result}
-use Rattle.night.specs.SetUps.{set_up_or_none}
 use Rattle.ground.specs.declared.Refusal.{Refusal}
-use Rattle.setup.specs.SetUps.{verdict_of, rack_or_none}
 
 -- nothing has been played
 abbrev pub begun : Rack → Tally → Played

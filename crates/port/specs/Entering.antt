@@ -1,5 +1,5 @@
 -- "The Source states": what is done where the rules lead. Each line is the paper's sentence on entering that state.
-use Rattle.std.specs.Prelude.{ℕ, ◌+◌, Bool, true, false, cond, ltb}
+use Rattle.std.specs.Prelude.{ℕ, ◌+◌, Bool, true, false, cond, ltb, Some, None, Option}
 use Rattle.message.specs.Types as Types
 use Rattle.outgoing.specs.declared.Packet.{Packet}
 use Rattle.outgoing.specs.Packets.{no_packet, control_of, data_of}
@@ -17,7 +17,6 @@ use Rattle.port.specs.declared.Port.{Port}
 use Rattle.port.specs.declared.Entered.{Entered}
 use Rattle.port.specs.Parts.{to, channel_is, gone_out_is, last_is, power_is, count_is, connected_is}
 use Rattle.port.specs.Memory.{most_offers}
-use Rattle.std.specs.Prelude.{Some, None, Option}
 
 -- ---- a port, with at most one thing done
 abbrev pub doing : Port → Packet → Bool → Option Supply → Option Timer → Entered

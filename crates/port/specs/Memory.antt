@@ -1,5 +1,5 @@
 -- "The port's memory and its actions": the memory at attach, what the states ask of it, and an answer without actions.
-use Rattle.std.specs.Prelude.{ℕ, Bool, false, leb, replicate}
+use Rattle.std.specs.Prelude.{ℕ, Bool, false, leb, replicate, None, Err, Option, List}
 use Rattle.ground.specs.declared.Refusal.{Refusal}
 use Rattle.offers.specs.declared.Offer.{Offer}
 use Rattle.outgoing.specs.Packets.{no_packet}
@@ -13,8 +13,6 @@ use Rattle.source.specs.States.{running}
 use Rattle.port.specs.declared.Actions.{Actions}
 use Rattle.port.specs.declared.Port.{Port}
 use Rattle.port.specs.declared.Answer.{Answer}
-use Rattle.std.specs.Prelude.{None, Err, Option}
-use Rattle.std.specs.Prelude.{List}
 
 abbrev pub state_of : Port → State
 state_of p = p.state

@@ -1,5 +1,5 @@
 -- "Protocol rules": what a packet does to a port.
-use Rattle.std.specs.Prelude.{ℕ, ◌+◌, ◌*◌, Bool, true, false, cond, not, ◌&&◌, List, [], eqb, drop}
+use Rattle.std.specs.Prelude.{ℕ, ◌+◌, ◌*◌, Bool, true, false, cond, not, ◌&&◌, List, [], eqb, drop, Some, None, Ok, Err, Option, Result}
 use Rattle.ground.specs.declared.Refusal.TheVariants.{NotAwaited}
 use Rattle.message.specs.declared.Fields.{Fields}
 use Rattle.message.specs.Bytes.{bytes_of, word_of}
@@ -23,7 +23,6 @@ use Rattle.port.specs.declared.Answer.{Answer}
 use Rattle.port.specs.Parts.{channel_is, connected_is}
 use Rattle.port.specs.Memory.{state_of, running_in, no_crc, refused_by}
 use Rattle.port.specs.Steps.{turn, by_outcome, nothing_done}
-use Rattle.std.specs.Prelude.{Some, None, Ok, Err, Option, Result}
 use Rattle.reading.specs.declared.Message.{Message}
 use Rattle.ground.specs.declared.Refusal.{Refusal}
 use Rattle.source.specs.declared.Way.{Way}

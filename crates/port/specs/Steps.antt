@@ -1,5 +1,5 @@
 -- The step of a port: what the protocol rules do to its channel, what happens to held power, and where the states lead.
-use Rattle.std.specs.Prelude.{ℕ, Bool, true, false}
+use Rattle.std.specs.Prelude.{ℕ, Bool, true, false, Some, None, Ok, Option, List}
 use Rattle.ground.specs.declared.Refusal.TheVariants.{BadOffer, NotAwaited}
 use Rattle.offers.specs.declared.Asked.{Asked}
 use Rattle.offers.specs.declared.Offer.{Offer}
@@ -24,8 +24,6 @@ use Rattle.port.specs.declared.Event.{Event}
 use Rattle.port.specs.Parts.{channel_is, newest_is, gone_out_is, power_is, count_is, connected_is}
 use Rattle.port.specs.Memory.{state_of, cleared, facts_of, running_in, no_crc, refused_by}
 use Rattle.port.specs.Entering.{doing, quiet, enter}
-use Rattle.std.specs.Prelude.{Some, None, Ok, Option}
-use Rattle.std.specs.Prelude.{List}
 
 -- Default ready: "contract, held, count and connected cleared"
 abbrev pub with_change : Change → Port → Port

@@ -1,5 +1,5 @@
 -- "The port's memory": accepted request, contract and held power, and what each change does to them.
-use Rattle.std.specs.Prelude.{max, Bool, true, false}
+use Rattle.std.specs.Prelude.{max, Bool, true, false, Some, None, Option}
 use Rattle.offers.specs.declared.Asked.{Asked}
 use Rattle.offers.specs.declared.Offer.{Offer}
 use Rattle.offers.specs.Requests.{is_honoured}
@@ -7,7 +7,6 @@ use Rattle.power.specs.declared.Power.{Power}
 use Rattle.power.specs.declared.Change.{Change}
 use Rattle.power.specs.declared.Standing.{Standing}
 use Rattle.power.specs.declared.Standing.TheVariants.{NoContract, Honoured, Broken}
-use Rattle.std.specs.Prelude.{Some, None, Option}
 
 abbrev pub nothing_asked : Asked
 nothing_asked = record { position = 0; voltage = 0; current = 0; worth = 0 }

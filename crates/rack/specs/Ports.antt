@@ -1,11 +1,10 @@
 -- "Power rule": the ports of a rack, what they take of the supply, and what the rule says of a port that asks.
-use Rattle.std.specs.Prelude.{ℕ, zero, suc, ◌+◌, ◌-◌, min, Bool, false, cond, ◌&&◌, [], leb, eqb, get_or, set}
+use Rattle.std.specs.Prelude.{ℕ, zero, suc, ◌+◌, ◌-◌, min, Bool, false, cond, ◌&&◌, [], leb, eqb, get_or, set, None}
 use Rattle.source.specs.declared.State.{State}
 use Rattle.port.specs.declared.Port.{Port}
 use Rattle.slot.specs.declared.Slot.{Slot}
 use Rattle.slot.specs.Load.{load_of, approves}
 use Rattle.rack.specs.declared.Rack.{Rack}
-use Rattle.std.specs.Prelude.{None}
 
 -- "1 to 8 ports"; Req 08: "The new shelf has 32 ports"
 abbrev pub most_ports : ℕ

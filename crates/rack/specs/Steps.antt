@@ -1,5 +1,5 @@
 -- An event at a port of the rack: the port's own step, with the power answer in it; the other ports stay as they are.
-use Rattle.std.specs.Prelude.{ℕ, Bool, true, false, List}
+use Rattle.std.specs.Prelude.{ℕ, Bool, true, false, List, Err}
 use Rattle.ground.specs.declared.Refusal.{Refusal}
 use Rattle.ground.specs.declared.Refusal.TheVariants.{NotInRack}
 use Rattle.offers.specs.declared.Offer.{Offer}
@@ -12,7 +12,6 @@ use Rattle.slot.specs.Answers.{settled}
 use Rattle.rack.specs.declared.Rack.{Rack}
 use Rattle.rack.specs.declared.RackAnswer.{RackAnswer}
 use Rattle.rack.specs.Ports.{at, in_rack, place_of, others, put}
-use Rattle.std.specs.Prelude.{Err}
 
 -- what can come to a port of the rack
 pub data Happening : Type 0 where

@@ -12,7 +12,7 @@ use Rattle.message.specs.Types as Types
 use Rattle.message.proofs.RoundTrip.{objects_packed}
 use Rattle.message.proofs.Bytes.{word_of_two}
 use Rattle.meaning.specs.declared.Meaning.{Meaning}
-use Rattle.reading.specs.Reading.{read_of}
+use Rattle.reading.specs.Reading.{read_of, message_with}
 use Rattle.sending.specs.Sending.{our_fields}
 use Rattle.offers.specs.declared.Asked.{Asked}
 use Rattle.outgoing.specs.Packets.{on_wire, control_of, data_of}
@@ -48,7 +48,6 @@ use Rattle.rackclaims.proofs.OwnSteps.{at_no}
 use Rattle.rackclaims.proofs.Settling.{Settles, by_itself, granted, denied, settles}
 use Rattle.rackclaims.proofs.Reached.{Reached}
 use Rattle.rackclaims.proofs.AcceptExactly.{Accepts, AcceptedBy, by_request}
-use Rattle.reading.specs.Reading.{message_with}
 use Rattle.std.specs.Prelude.{Some, None, Option}
 
 -- ---- which messages are an Accept

@@ -13,10 +13,9 @@ use Rattle.slot.specs.Load.{load_of}
 use Rattle.rack.specs.Ports.{most_ports, nobody, at, ports_in, loads}
 use Rattle.rack.proofs.Totals.{below, total_same}
 use Rattle.setup.specs.declared.SetUp.{SetUp}
-use Rattle.setup.specs.SetUps.{least, largest_limit, no_setting, setting, good_setting, everywhere, shares, good_count, good_supply, good_set_up, slot_of, rack_of, judged, accepted_set_up}
+use Rattle.setup.specs.SetUps.{least, largest_limit, no_setting, setting, good_setting, everywhere, shares, good_count, good_supply, good_set_up, slot_of, rack_of, judged, accepted_set_up, verdict_of, rack_or_none}
 use Rattle.portclaims.proofs.Truth.{true_not_false, first, second}
 use Rattle.std.specs.Prelude.{Ok}
-use Rattle.setup.specs.SetUps.{verdict_of, rack_or_none}
 
 -- something that holds everywhere holds at each place
 each : (f : ℕ → Bool) (n i : ℕ) → everywhere f n ≡ true → i < n → f i ≡ true

@@ -5,7 +5,7 @@ use mathlib.Core.Path.{◌≡◌, ap, ◌∙◌}
 use mathlib.Core.Bool.{true, false}
 use mathlib.Core.List.{List}
 use Rattle.message.specs.declared.Fields.{Fields}
-use Rattle.reading.specs.Reading.{read_of}
+use Rattle.reading.specs.Reading.{read_of, message_with}
 use Rattle.channel.specs.Channel.{is_repeat}
 use Rattle.source.specs.declared.State.{State}
 use Rattle.source.specs.States.{same, listens}
@@ -19,7 +19,6 @@ use Rattle.rack.specs.Ports.{at}
 use Rattle.rack.specs.Steps.{packet, own_answer, answer_at, turned}
 use Rattle.rackclaims.proofs.Neighbours.{put_same, answers_by_itself}
 use Rattle.rackclaims.proofs.RefusalsInOrder.{never_twice}
-use Rattle.reading.specs.Reading.{message_with}
 
 module _ (r : Rack) (i : ℕ) (s : List ℕ) (n : ℕ) (f : Fields) (listening : listens (state_of (at r i).port) ≡ true) (read : read_of s ≡ message_with n f)
     (again : is_repeat (at r i).port.channel f.message_id ≡ true) (not-aside : aside (meaning_in n f) ≡ false) where

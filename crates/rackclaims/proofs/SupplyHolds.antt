@@ -12,13 +12,12 @@ use Rattle.rack.specs.Ports.{at, total, loads, others}
 use Rattle.rack.specs.Runs.{Happens, run}
 use Rattle.rack.proofs.Totals.{total_same, total_larger}
 use Rattle.setup.specs.declared.SetUp.{SetUp}
-use Rattle.setup.specs.SetUps.{setting, good_set_up, rack_of, accepted_set_up}
+use Rattle.setup.specs.SetUps.{setting, good_set_up, rack_of, accepted_set_up, verdict_of, rack_or_none}
 use Rattle.rackclaims.specs.History.{Entry, history, held_by}
 use Rattle.rackclaims.proofs.GoodSetUps.{accepted_is_good, good_is_set_up}
 use Rattle.rackclaims.proofs.Reached.{Reached, always_reached, ports_are}
 use Rattle.rackclaims.proofs.HeldByHistory.{held_by_history}
 use Rattle.std.specs.Prelude.{Ok}
-use Rattle.setup.specs.SetUps.{verdict_of, rack_or_none}
 
 module _ (u : SetUp) (accepted : verdict_of (accepted_set_up u) ≡ Ok tt) (es : List Happens) where
   abbrev entries : List Entry

@@ -12,7 +12,7 @@ use Rattle.message.specs.declared.Fields.{Fields}
 use Rattle.message.specs.Header.{fields_of, objects_of, header_of}
 use Rattle.message.specs.Bytes.{word_of, is_chunked, bytes_of}
 use Rattle.meaning.specs.Meaning.{meaning_of}
-use Rattle.reading.specs.Reading.{read_of, reading_tried, part_of}
+use Rattle.reading.specs.Reading.{read_of, reading_tried, part_of, message_with}
 use Rattle.offers.specs.Offers.{object_at, good_object, good_from, good_offer}
 use Rattle.offers.specs.Requests.{fits, asked, fit_of, is_honoured}
 use Rattle.outgoing.specs.Packets.{control_of, data_of}
@@ -40,15 +40,13 @@ use Rattle.rack.specs.Ports.{at, ports_in, others, power_rule}
 use Rattle.rack.specs.Steps.{Happening, event, packet, new_offer, own_answer, answer_at, step}
 use Rattle.rack.specs.Runs.{Happens, run_by, run}
 use Rattle.setup.specs.declared.SetUp.{SetUp}
-use Rattle.setup.specs.SetUps.{good_setting, good_set_up, accepted_set_up}
+use Rattle.setup.specs.SetUps.{good_setting, good_set_up, accepted_set_up, verdict_of, rack_or_none}
 use Rattle.rackclaims.specs.Wire.{is_offer}
 use Rattle.rackclaims.specs.History.{history_by, history, held_by}
 use Rattle.rackclaims.specs.NightDesk as Desk
 use Rattle.rackclaims.proofs.Settling.{asks}
 use Rattle.rackclaims.proofs.Neighbours.{others_stay}
-use Rattle.reading.specs.Reading.{message_with}
 use Rattle.std.specs.Prelude.{Ok, Err}
-use Rattle.setup.specs.SetUps.{verdict_of, rack_or_none}
 
 -- the fields of a receiver's first Request
 abbrev asks_once : Fields

@@ -7,8 +7,7 @@ use Rattle.rack.specs.Ports.{most_ports}
 use Rattle.rack.specs.Steps.{event, packet}
 use Rattle.rack.specs.Runs.{Happens, run}
 use Rattle.setup.specs.declared.SetUp.{SetUp}
-use Rattle.setup.specs.SetUps.{accepted_set_up}
-use Rattle.setup.specs.SetUps.{rack_or_none}
+use Rattle.setup.specs.SetUps.{accepted_set_up, rack_or_none}
 
 -- 5 V, 9 V and 20 V, each with 3 A
 abbrev pub three_objects : Offer

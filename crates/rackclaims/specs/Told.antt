@@ -1,6 +1,6 @@
 -- "What may not be left loose": what an answer says of held power, and where. Accepted, where a Request is answered with Accept; in force, where Telling's PS_RDY is
 -- acknowledged; given up, at detach and when Default is ready; else nothing.
-use Rattle.std.specs.Prelude.{Bool, true, false, not, cond, ◌&&◌, eqb}
+use Rattle.std.specs.Prelude.{Bool, true, false, not, cond, ◌&&◌, eqb, Ok, Err, Result}
 use Rattle.meaning.specs.declared.Meaning.{Meaning}
 use Rattle.reading.specs.Reading.{read_of}
 use Rattle.outgoing.specs.Packets.{on_wire}
@@ -15,7 +15,6 @@ use Rattle.port.specs.Memory.{state_of, pending_in}
 use Rattle.port.specs.Packets.{meaning_in}
 use Rattle.rack.specs.Steps.{Happening, event, packet, new_offer}
 use Rattle.rackclaims.specs.Wire.{is_accept}
-use Rattle.std.specs.Prelude.{Ok, Err, Result}
 use Rattle.reading.specs.declared.Message.{Message}
 use Rattle.ground.specs.declared.Refusal.{Refusal}
 

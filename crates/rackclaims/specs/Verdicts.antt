@@ -1,5 +1,5 @@
 -- "Refusal numbers": which verdict an event at a port of the rack gets. "An event tries 9, then 1 to 4 or 7, then 8."
-use Rattle.std.specs.Prelude.{ℕ, Bool, true, false, not, cond, ◌&&◌, ◌||◌}
+use Rattle.std.specs.Prelude.{ℕ, Bool, true, false, not, cond, ◌&&◌, ◌||◌, Ok, Err, Result}
 use Rattle.ground.specs.declared.Refusal.TheVariants.{BadOffer, NotAwaited, NotInRack}
 use Rattle.reading.specs.Reading.{read_of}
 use Rattle.offers.specs.Offers.{good_offer}
@@ -13,7 +13,6 @@ use Rattle.rack.specs.declared.Rack.{Rack}
 use Rattle.rack.specs.Ports.{at, in_rack, place_of}
 use Rattle.rack.specs.Steps.{Happening, event, packet, new_offer}
 use Rattle.ground.specs.Refusals.{Verdict}
-use Rattle.std.specs.Prelude.{Ok, Err, Result}
 use Rattle.reading.specs.declared.Message.{Message}
 use Rattle.ground.specs.declared.Refusal.{Refusal}
 

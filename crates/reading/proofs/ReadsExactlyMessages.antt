@@ -10,12 +10,10 @@ use Rattle.message.specs.Header.{fields_of, objects_of}
 use Rattle.message.specs.Bytes.{AreBytes, Sound, bytes_of, word_of, is_chunked}
 use Rattle.message.proofs.RoundTrip.{pack_unpack, unpack_pack, objects_pack, fields_fit}
 use Rattle.message.proofs.Bytes.{header_first, objects_rest, length_bytes, word<, two_of_word, chunked_there}
-use Rattle.reading.specs.Reading.{reading_tried, answer_of, read_of, part_of, extended_in}
+use Rattle.reading.specs.Reading.{reading_tried, answer_of, read_of, part_of, extended_in, message_with}
 use Rattle.reading.proofs.Fine.{Readable, readable, fine}
 use Rattle.ground.specs.Refusals.{Verdict}
-use Rattle.reading.specs.Reading.{message_with}
-use Rattle.std.specs.Prelude.{Ok, Err}
-use Rattle.std.specs.Prelude.{Result}
+use Rattle.std.specs.Prelude.{Ok, Err, Result}
 use Rattle.reading.specs.declared.Message.{Message}
 use Rattle.ground.specs.declared.Refusal.{Refusal}
 

@@ -1,13 +1,11 @@
 -- "The packet" and "Refusal numbers": what reading a packet gives. Reading tries 1, 2, 3 (extended under 4), 4, 3.
-use Rattle.std.specs.Prelude.{ℕ, ◌+◌, ◌*◌, ◌≡◌, Bool, not, ◌&&◌, List, [], ltb, eqb, length, drop}
+use Rattle.std.specs.Prelude.{ℕ, ◌+◌, ◌*◌, ◌≡◌, Bool, not, ◌&&◌, List, [], ltb, eqb, length, drop, Ok, Err, Result}
 use Rattle.std.specs.Borrow.{Bor}
 use Rattle.ground.specs.declared.Refusal.TheVariants.{TooShort, TooLong, WrongLength, NotChunked}
-use Rattle.ground.specs.Refusals.{refuse_if}
+use Rattle.ground.specs.Refusals.{refuse_if, Verdict}
 use Rattle.message.specs.Header.{fields_of, objects_of}
 use Rattle.message.specs.declared.Fields.{Fields}
 use Rattle.message.specs.Bytes.{word_of, is_chunked}
-use Rattle.ground.specs.Refusals.{Verdict}
-use Rattle.std.specs.Prelude.{Ok, Err, Result}
 use Rattle.reading.specs.declared.Message.{Message}
 use Rattle.ground.specs.declared.Refusal.{Refusal}
 

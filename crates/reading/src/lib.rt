@@ -33,8 +33,14 @@ fn tried(s: &[u8]) -> Verdict
     refuse_if(n < 2, Refusal::TooShort)?;
     refuse_if(30 < n, Refusal::TooLong)?;
     refuse_if(extended & (n < 4), Refusal::WrongLength)?;
-    refuse_if(extended & !message::chunked(after_header(s)), Refusal::NotChunked)?;
-    refuse_if(n != 2 + 4 * (message::object_count(h) as usize), Refusal::WrongLength)
+    refuse_if(
+        extended & !message::chunked(after_header(s)),
+        Refusal::NotChunked,
+    )?;
+    refuse_if(
+        n != 2 + 4 * (message::object_count(h) as usize),
+        Refusal::WrongLength,
+    )
 }
 
 // The fields and the number of objects, or the refusal.

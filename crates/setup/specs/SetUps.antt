@@ -1,7 +1,7 @@
 -- "Refusal numbers": "A set-up is good with 1 to 8 ports, numbered from 1, a supply of 30,000 to 1,600,000 units, for each port
 -- 30,000 <= share <= limit <= 200,000, shares adding to at most the supply, and a good first offer for each port." Req 08, "Thirty-two ports", raises two of these
 -- limits: "32 ports and a supply up to 6,400,000 units".
-use Rattle.std.specs.Prelude.{ℕ, zero, suc, Bool, true, false, ◌&&◌, [], map, leb, get_or, replicate}
+use Rattle.std.specs.Prelude.{ℕ, zero, suc, Bool, true, false, ◌&&◌, [], map, leb, get_or, replicate, Ok, Err, Result}
 use Rattle.ground.specs.declared.Refusal.TheVariants.{BadSetUp}
 use Rattle.offers.specs.Offers.{good_offer}
 use Rattle.port.specs.Memory.{detached_port, no_offer}
@@ -10,8 +10,6 @@ use Rattle.rack.specs.declared.Rack.{Rack}
 use Rattle.rack.specs.Ports.{most_ports, total}
 use Rattle.setup.specs.declared.Setting.{Setting}
 use Rattle.setup.specs.declared.SetUp.{SetUp}
-use Rattle.std.specs.Prelude.{Ok, Err}
-use Rattle.std.specs.Prelude.{Result}
 use Rattle.ground.specs.Refusals.{Verdict}
 use Rattle.ground.specs.declared.Refusal.{Refusal}
 

@@ -1,9 +1,8 @@
 -- "The Source states": the states told apart, which of them listen, and the timer that runs in each.
-use Rattle.std.specs.Prelude.{ℕ, Bool, true, false, not, cond, ◌||◌, eqb}
+use Rattle.std.specs.Prelude.{ℕ, Bool, true, false, not, cond, ◌||◌, eqb, Some, None, Option}
 use Rattle.source.specs.declared.State.{State}
 use Rattle.source.specs.declared.Timer.{Timer}
 use Rattle.source.specs.declared.Timer.TheVariants.{SenderResponse, SourceCapability, PsHardReset}
-use Rattle.std.specs.Prelude.{Some, None, Option}
 
 abbrev pub code_of : State → ℕ
 code_of State.Detached = 0

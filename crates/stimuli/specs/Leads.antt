@@ -1,5 +1,5 @@
 -- "The Source states": where each stimulus leads each state, new packets aside. What is not named: "Anything else is refusal 8."
-use Rattle.std.specs.Prelude.{Bool, cond, List, [], ◌∷◌}
+use Rattle.std.specs.Prelude.{Bool, cond, List, [], ◌∷◌, Some, None, Option}
 use Rattle.power.specs.declared.Standing.{Standing}
 use Rattle.power.specs.declared.Standing.TheVariants.{NoContract, Honoured, Broken}
 use Rattle.source.specs.declared.State.{State}
@@ -7,7 +7,6 @@ use Rattle.source.specs.declared.Stimulus.{Stimulus}
 use Rattle.source.specs.declared.Facts.{Facts}
 use Rattle.source.specs.declared.Way.{Way}
 use Rattle.source.specs.States.{same, listens}
-use Rattle.std.specs.Prelude.{Some, None, Option}
 
 -- a state, and where it leads
 pub record Row : Type 0 where

@@ -7,9 +7,8 @@ use lib.ListN.{length, take, drop, drop_of_length-le}
 use Rattle.std.proofs.lemmas.List.{take_min}
 use Rattle.ground.specs.declared.Refusal.{Refusal}
 use Rattle.ground.specs.declared.Refusal.TheVariants.{TooShort, TooLong, WrongLength, NotChunked, NoRoom, OutOfRange, BadOffer, NotAwaited, NotInRack, BadSetUp}
-use Rattle.ground.specs.Refusals.{number_of}
+use Rattle.ground.specs.Refusals.{number_of, Verdict}
 use Rattle.tally.specs.Checksum.{mixed_all, verdict_number}
-use Rattle.ground.specs.Refusals.{Verdict}
 use Rattle.std.specs.Prelude.{Ok, Err}
 
 -- past the last byte, what was taken in is the whole message: as many of its bytes as it says, and no more than there are

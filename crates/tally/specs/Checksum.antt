@@ -1,6 +1,6 @@
 -- docs/REPLAY.md, "The checksum": the numbers that an answer takes in, in their order.
-use Rattle.std.specs.Prelude.{ℕ, ◌+◌, ◌*◌, ◌%◌, Bool, true, false, List, [], ◌∷◌, take}
-use Rattle.ground.specs.Refusals.{number_of}
+use Rattle.std.specs.Prelude.{ℕ, ◌+◌, ◌*◌, ◌%◌, Bool, true, false, List, [], ◌∷◌, take, Some, None, Ok, Err, Option}
+use Rattle.ground.specs.Refusals.{number_of, Verdict}
 use Rattle.message.specs.Bytes.{word_of}
 use Rattle.outgoing.specs.declared.Packet.{Packet}
 use Rattle.source.specs.declared.State.{State}
@@ -8,8 +8,6 @@ use Rattle.source.specs.declared.Timer.{Timer}
 use Rattle.source.specs.States.{code_of}
 use Rattle.port.specs.declared.Actions.{Actions}
 use Rattle.port.specs.declared.Supply.{Supply}
-use Rattle.ground.specs.Refusals.{Verdict}
-use Rattle.std.specs.Prelude.{Some, None, Ok, Err, Option}
 
 -- "sum = (sum * 16777619 + x) mod 4294967296"
 unfoldable pub mixed : ℕ → ℕ → ℕ

@@ -1,14 +1,12 @@
 -- docs/REPLAY.md, "The counts": how many answers there were of each sort.
-use Rattle.std.specs.Prelude.{ℕ, ◌+◌, min, Bool, not, cond, ◌&&◌, get_or, set, replicate}
-use Rattle.ground.specs.Refusals.{number_of}
+use Rattle.std.specs.Prelude.{ℕ, ◌+◌, min, Bool, not, cond, ◌&&◌, get_or, set, replicate, Ok, Err}
+use Rattle.ground.specs.Refusals.{number_of, Verdict}
 use Rattle.source.specs.declared.State.{State}
 use Rattle.source.specs.States.{same}
 use Rattle.port.specs.declared.Actions.{Actions}
 use Rattle.tally.specs.declared.Tally.{Tally}
 use Rattle.tally.specs.declared.Sums.{Sums}
 use Rattle.tally.specs.Checksum.{mixed, verdict_number, checked}
-use Rattle.ground.specs.Refusals.{Verdict}
-use Rattle.std.specs.Prelude.{Ok, Err}
 
 -- one more, as far as the place for it goes
 abbrev pub one_more : ℕ → ℕ

@@ -1,12 +1,10 @@
 -- "The packet" and "Refusal numbers": what writing a message into a buffer from a place on gives. Writing tries 6, 4, 5.
-use Rattle.std.specs.Prelude.{ℕ, ◌+◌, ◌*◌, ◌-◌, ◌/◌, ◌%◌, ◌<◌, ◌≤◌, ◌≡◌, Bool, not, ◌&&◌, List, [], ◌∷◌, ltb, eqb, length}
+use Rattle.std.specs.Prelude.{ℕ, ◌+◌, ◌*◌, ◌-◌, ◌/◌, ◌%◌, ◌<◌, ◌≤◌, ◌≡◌, Bool, not, ◌&&◌, List, [], ◌∷◌, ltb, eqb, length, Ok, Err, Result}
 use Rattle.ground.specs.declared.Refusal.TheVariants.{OutOfRange, NotChunked, NoRoom}
 use Rattle.ground.specs.Buffers.{laid}
-use Rattle.ground.specs.Refusals.{refuse_if, any_of}
+use Rattle.ground.specs.Refusals.{refuse_if, any_of, Verdict}
 use Rattle.message.specs.declared.Fields.{Fields}
 use Rattle.message.specs.Bytes.{bytes_of, is_chunked, Sound}
-use Rattle.ground.specs.Refusals.{Verdict}
-use Rattle.std.specs.Prelude.{Ok, Err, Result}
 use Rattle.ground.specs.declared.Refusal.{Refusal}
 
 -- "type over 31, MessageID over 7, a role over 1, revision 11b or over, object bytes not a multiple of 4 or over 28" (n of them)

@@ -17,6 +17,6 @@ returns-else-n-ge4 c =
     let n = c.size-n.result in
     let e = c.size-n.ensures in
     elim c.else-n-ge4.branch [
-      else-n-ge4-via-then-n-ge4+else-n-s w ↦ record { memory = refl; start = rw (cut_start l n e w.if-n-s.false w.if-n-ge4.true) (omega arith); bytes = cut_behind l n e w.if-n-s.false }
-    | else-n-ge4-via-else-n-ge4 w ↦ record { memory = refl; start = rw (no_start l n e w.if-n-ge4.false) (omega arith); bytes = none_behind l n e w.if-n-ge4.false }
+      | else-n-ge4-via-then-n-ge4+else-n-s w ↦ record { memory = refl; start = rw (cut_start l n e w.if-n-s.false w.if-n-ge4.true) (omega arith); bytes = cut_behind l n e w.if-n-s.false }
+      | else-n-ge4-via-else-n-ge4 w ↦ record { memory = refl; start = rw (no_start l n e w.if-n-ge4.false) (omega arith); bytes = none_behind l n e w.if-n-ge4.false }
     ]
