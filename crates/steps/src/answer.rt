@@ -4,7 +4,7 @@ use crate::command::{Command, understand};
 use crate::input::Input;
 use crate::memory::{bytes_of, put_memory};
 use port::{Actions, Supply};
-use rack::{PORTS, Rack};
+use rack::Rack;
 use std::fmt::{self, Write};
 use text::Line;
 
@@ -73,13 +73,11 @@ fn put_alone(line: &mut Line, t: Told, b: &Bench) -> fmt::Result {
 
 // The memory of the rack's port with this number, or a dash where the rack has none.
 fn put_memory_in(line: &mut Line, r: &Rack, number: u8) -> fmt::Result {
-    if !r.has(number) {
-        return write!(line, "-");
+    if r.has(number) {
+        put_memory(line, &r.slots[number as usize - 1].port)
+    } else {
+        write!(line, "-")
     }
-    // Port 1 has the first slot. The remainder changes no number of a port, and shows that there is a
-    // slot for it.
-    let i = (number as usize + PORTS - 1) % PORTS;
-    put_memory(line, &r.slots[i].port)
 }
 
 // What is said of what came to the port of the rack with this number.
