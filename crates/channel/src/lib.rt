@@ -9,8 +9,9 @@ ghost use Rattle.channel.specs.Outcomes.{outcome_of, on_good_crc, on_expiry};
 
 use outgoing::{NO_PACKET, Packet};
 
-// The message that is not yet acknowledged, and how often it has been sent again; an empty packet
-// is no message.
+// The message that is not yet acknowledged, and how often it has been sent again; an empty packet is no
+// message. It is no Option: the claims speak of every channel (`is_pending`, `Demand2`), one with retries and no
+// message among them.
 #[derive(Clone, Copy)]
 pub struct Pending {
     pub packet: Packet,
@@ -25,7 +26,8 @@ pub struct Channel {
     pub pending: Pending,
 }
 
-// What a GoodCRC or the acknowledgement timer comes to for the pending message.
+// What a GoodCRC or the acknowledgement timer comes to for the pending message. That none is pending has a
+// rule of its own, as the other three have, so it is no absent value.
 #[derive(Clone, Copy)]
 pub enum Outcome {
     NonePending,

@@ -24,6 +24,8 @@ use Rattle.ground.proofs.number.Kinds as number-k
 use Rattle.ground.proofs.number.Reads as number-c
 use Rattle.ground.proofs.refuse_if.Kinds as refuse-k
 use Rattle.ground.proofs.refuse_if.Reads as refuse-c
+use Rattle.ground.proofs.refuse.Kinds as one-test-k
+use Rattle.ground.proofs.refuse.Reads as one-test-c
 use Rattle.message.proofs.unpack.Kinds as unpack-k
 use Rattle.message.proofs.unpack.Reads as unpack-c
 use Rattle.message.proofs.pack.Kinds as pack-k
@@ -58,6 +60,9 @@ number κs a x y s t = same
 
 pub refuse_if_lem : Settles 0 refuse-k.ps refuse-k.r refuse-c.Post (λ κs x s. x)
 refuse_if_lem κs a x y s t = same
+
+pub refuse : Settles 0 one-test-k.ps one-test-k.r one-test-c.Post (λ κs x s. x)
+refuse κs a x y s t = same
 
 pub unpack : Settles 0 unpack-k.ps unpack-k.r unpack-c.Post (λ κs x s. x)
 unpack κs a x y s t = same

@@ -11,6 +11,7 @@ use slot::Slot;
 // What the port has answered, where that is all.
 #[derive(Clone, Copy)]
 pub struct Alone {
+    // As the port's answer has it.
     pub verdict: Verdict,
     pub actions: Actions,
     // The port afterwards.

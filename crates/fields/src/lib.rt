@@ -19,6 +19,7 @@ pub mod alone;
 #[derive(Clone, Copy)]
 pub struct Field {
     pub found: Found,
+    // As the rack's answer has it.
     pub verdict: Verdict,
     pub actions: Actions,
     // The rack afterwards.
@@ -28,7 +29,7 @@ pub struct Field {
 }
 
 // What stands where the reading stopped: nothing, a field that is not whole, one that is damaged, or one
-// that can be read.
+// that can be read: six cases that the programs tell apart, and no value in any.
 #[derive(Clone, Copy)]
 pub enum Ending {
     Whole,

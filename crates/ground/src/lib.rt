@@ -66,12 +66,19 @@ pub fn number(r: Refusal) -> u8
     r as u8
 }
 
-// One test of a row: its refusal where it holds. A row is such tests, each with a `?` behind it.
+// One test in front of the rest of a row: its refusal where it holds, else what the rest comes to.
 #[tactic(auto, unfolding(crate::specs::Refusals::refuse_if))]
-pub fn refuse_if(test: bool, r: Refusal) -> Verdict
+pub fn refuse_if(test: bool, r: Refusal, rest: Verdict) -> Verdict
+    ensures { result ≡ refuse_if test r rest }
+{
+    if test { Err(r) } else { rest }
+}
+
+// One test of a row of tests, each with a `?` behind it.
+pub fn refuse(test: bool, r: Refusal) -> Verdict
     ensures { result ≡ refuse_if test r (Ok tt) }
 {
-    if test { Err(r) } else { Ok(()) }
+    refuse_if(test, r, Ok(()))
 }
 
 // The larger of two numbers.

@@ -9,7 +9,7 @@ ghost use Rattle.night.specs.Events.{event_of, if_fits, kind_of, next_of, offer_
 ghost use Rattle.night.specs.SetUps.{set_up_in};
 
 use offers::Offer;
-use port::Event;
+use port::{Event, packets};
 use setup::SetUp;
 
 mod setups;
@@ -32,7 +32,7 @@ pub enum Found {
 pub(crate) fn from(s: &[u8], at: usize) -> &[u8]
     ensures { result.now ≡ drop at s.now }
 {
-    if at <= s.len() { &s[at..] } else { &[] }
+    s.get(at..).unwrap_or(&[])
 }
 
 // The length of a field's value.
@@ -58,14 +58,12 @@ pub(crate) fn value(s: &[u8]) -> &[u8]
     if n <= s.len() { &s[3..n] } else { &[] }
 }
 
-// A number of four bytes at a place, least byte first.
-#[tactic(auto, unfolding(crate::specs::Fields::number_at))]
+// A number of four bytes at a place, least byte first: as an object is read.
+#[tactic(auto, unfolding(crate::specs::Fields::number_at, port::specs::Packets::first_object))]
 pub(crate) fn number(s: &[u8], at: usize) -> u32
     ensures { result ≡ number_at s.now at }
 {
-    let low = message::word(from(s, at)) as u32;
-    let high = message::word(from(from(s, at), 2)) as u32;
-    low + high * 65536
+    packets::first_object(from(s, at))
 }
 
 // The event of a tag that has nothing behind the port's number.

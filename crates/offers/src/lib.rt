@@ -8,7 +8,8 @@ ghost use Rattle.offers.specs.Objects.{voltage_of, current_of, position_of, is_m
 ghost use Rattle.offers.specs.Offers.{has, object_at, good_object, good_from, good_offer};
 ghost use Rattle.offers.specs.Requests.{fits, asked, fit_of, is_honoured};
 
-// An offer: its objects, as 32-bit words, and how many of them there are.
+// An offer: its objects, as 32-bit words, and how many of them there are. Fixed memory, and no heap; and a count
+// past the seventh is kept, since by it an offer is a bad one (`good_offer`).
 #[derive(Clone, Copy)]
 pub struct Offer {
     pub objects: [u32; 7],

@@ -10,7 +10,8 @@ use sending::{header_bytes, our_fields};
 // The objects that a message can have.
 pub type Objects = [u32; 7];
 
-// The bytes of a message, and how many there are; none is no message.
+// The bytes of a message, and how many there are; none is no message. Fixed memory, and no heap: a port keeps
+// one, and is copied with it, which a vector of the library is not.
 #[derive(Clone, Copy)]
 pub struct Packet {
     pub bytes: [u8; 30],

@@ -18,7 +18,7 @@ mod deciding;
 mod doing;
 mod meeting;
 
-// What the protocol rules do to the port first.
+// What the protocol rules do to the port first; `Nothing` is one of six rules, each with a step of its own.
 #[derive(Clone, Copy)]
 pub enum Prior {
     Nothing,
@@ -30,7 +30,8 @@ pub enum Prior {
 }
 
 // What is left of an event once the protocol rules have been asked: a refusal, nothing more to do, a
-// stimulus (and whether it is a timer, which no longer runs), or a new packet.
+// stimulus (and whether it is a timer, which no longer runs), or a new packet. A refusal is one of the four:
+// as a Result around `Met`, `done` would have to take one too.
 #[derive(Clone, Copy)]
 pub enum Cue {
     Refused(Refusal),
@@ -55,7 +56,8 @@ pub struct Plan {
     pub runs: Option<Timer>,
     pub change: Change,
     pub way: Way,
-    // Whether the power rule is asked.
+    // Whether the power rule is asked. What a Request asks stands beside it, and not under it: `turn` is given it
+    // in any case, as `port` gives it.
     pub asks: bool,
     pub asked: Asked,
 }

@@ -61,7 +61,8 @@ pub enum Supply {
     Position(u8),
 }
 
-// At most one of each, in the order in which they are done. An empty packet is none to transmit.
+// At most one of each, in the order in which they are done. An empty packet is none to transmit, as it is none
+// pending: what goes out and what is pending are compared whole (`portclaims/proofs/Transmissions`).
 #[derive(Clone, Copy)]
 pub struct Actions {
     // The GoodCRC for a packet.
@@ -73,7 +74,9 @@ pub struct Actions {
     pub start: Option<Timer>,
 }
 
-// The answer: fine or refused, the next port, the actions, and what happened to held power.
+// The answer: fine or refused, the next port, the actions, and what happened to held power. The verdict stands
+// beside them, and is no Result of them, since of a refused event too it is said that the port is the very same
+// and that nothing is done (`Demand1`: `no_port_is_different`, `nothing_is_done`).
 #[derive(Clone, Copy)]
 pub struct Answer {
     pub verdict: Verdict,

@@ -1,5 +1,5 @@
 // What a packet does to a port.
-ghost use Rattle.std.specs.Prelude.{◌≡◌, drop};
+ghost use Rattle.std.specs.Prelude.{◌≡◌};
 ghost use Rattle.port.specs.Packets.{first_object, meaning_in, requested, replied, heard_as, asked_by, is_soft_reset, crc_for, hearing, new_packet, other_packet, good_crc_heard, by_meaning, message_of};
 
 use crate::entering::Control;
@@ -13,20 +13,13 @@ use reading::Message;
 use sending::HeaderBytes;
 use source::Heard;
 
-// What follows the first two bytes.
-fn behind_two(o: &[u8]) -> &[u8]
-    ensures { result.now ≡ drop 2 o.now }
-{
-    if 2 <= o.len() { &o[2..] } else { &[] }
-}
-
 // The first object of some object bytes, least byte first.
 #[tactic(auto, unfolding(crate::specs::Packets::first_object))]
 pub fn first_object(o: &[u8]) -> u32
     ensures { result ≡ first_object o.now }
 {
     let low = message::word(o) as u32;
-    let high = message::word(behind_two(o)) as u32;
+    let high = message::word(o.get(2..).unwrap_or(&[])) as u32;
     low + high * 65536
 }
 

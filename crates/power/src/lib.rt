@@ -18,7 +18,8 @@ pub struct Power {
     pub held: u32,
 }
 
-// What happens to held power in an event.
+// What happens to held power in an event. `Nothing` is one of the four answers of the Source states' tables:
+// as an Option, every other entry of them would be wrapped, and no reader helped.
 #[derive(Clone, Copy)]
 pub enum Change {
     Nothing,
@@ -42,7 +43,7 @@ impl fmt::Display for Change {
     }
 }
 
-// How a contract stands to an offer.
+// How a contract stands to an offer: three cases with a rule of their own each, and no value in any.
 #[derive(Clone, Copy)]
 pub enum Standing {
     NoContract,

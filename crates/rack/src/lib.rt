@@ -17,6 +17,8 @@ use slot::{Beside, Slot};
 // The most ports of a rack.
 pub const PORTS: usize = 32;
 
+// Fixed memory, and no heap: places for the most ports, stepped by value. A count past them is as the most
+// (`ports_in`), for any rack.
 #[derive(Clone, Copy)]
 pub struct Rack {
     pub slots: [Slot; PORTS],
@@ -26,7 +28,7 @@ pub struct Rack {
 }
 
 // The answer: fine or refused, the next rack, the actions of the port that the event came to, and what
-// happened to the power that it holds.
+// happened to the power that it holds. A refused event has all four too, as a port's answer.
 #[derive(Clone, Copy)]
 pub struct RackAnswer {
     pub verdict: Verdict,

@@ -25,6 +25,8 @@ use Rattle.rack.proofs.Rack.new_offer.Kinds as rack-new-offer-k
 use Rattle.rack.proofs.Rack.new_offer.Reads as rack-new-offer-c
 use Rattle.setup.proofs.good.Kinds as setup-good-k
 use Rattle.setup.proofs.good.Reads as setup-good-c
+use Rattle.setup.proofs.no_rack.Kinds as setup-no-rack-k
+use Rattle.setup.proofs.no_rack.Reads as setup-no-rack-c
 use Rattle.setup.proofs.set_up.Kinds as setup-set-up-k
 use Rattle.setup.proofs.set_up.Reads as setup-set-up-c
 
@@ -63,6 +65,9 @@ rack_new_offer κs a x y s t = same
 
 pub setup_good : Settles 0 setup-good-k.ps setup-good-k.r setup-good-c.Post (λ κs x s. x)
 setup_good κs a x y s t = same
+
+pub setup_no_rack : Settles 0 setup-no-rack-k.ps setup-no-rack-k.r setup-no-rack-c.Post (λ κs x s. x)
+setup_no_rack κs a x y s t = same
 
 pub setup_set_up : Settles 0 setup-set-up-k.ps setup-set-up-k.r setup-set-up-c.Post (λ κs x s. x)
 setup_set_up κs a x y s t = same

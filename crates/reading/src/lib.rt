@@ -3,9 +3,9 @@
 #![tactic(auto)]
 
 ghost use Rattle.std.specs.Prelude.{◌≡◌};
-ghost use Rattle.reading.specs.Reading.{Part, after_header, reading_tried, read_of};
+ghost use Rattle.reading.specs.Reading.{Part, reading_tried, read_of};
 
-use ground::{Refusal, Verdict, refuse_if};
+use ground::{Refusal, Verdict, refuse};
 use message::Fields;
 
 // What reading a packet gives, where nothing is refused: how many objects it has, and its fields.
@@ -13,13 +13,6 @@ use message::Fields;
 pub struct Message {
     pub objects: u8,
     pub fields: Fields,
-}
-
-// What follows the header.
-fn after_header(s: &[u8]) -> &[u8]
-    ensures { result.now ≡ after_header s.now }
-{
-    if 2 <= s.len() { &s[2..] } else { &[] }
 }
 
 // The tests, in the paper's order.
@@ -30,14 +23,14 @@ fn tried(s: &[u8]) -> Verdict
     let h = message::word(s);
     let extended = message::unpack(h).extended;
     let n = s.len();
-    refuse_if(n < 2, Refusal::TooShort)?;
-    refuse_if(30 < n, Refusal::TooLong)?;
-    refuse_if(extended & (n < 4), Refusal::WrongLength)?;
-    refuse_if(
-        extended & !message::chunked(after_header(s)),
+    refuse(n < 2, Refusal::TooShort)?;
+    refuse(30 < n, Refusal::TooLong)?;
+    refuse(extended & (n < 4), Refusal::WrongLength)?;
+    refuse(
+        extended & !message::chunked(s.get(2..).unwrap_or(&[])),
         Refusal::NotChunked,
     )?;
-    refuse_if(
+    refuse(
         n != 2 + 4 * (message::object_count(h) as usize),
         Refusal::WrongLength,
     )

@@ -26,6 +26,7 @@ pub struct Setting {
     pub offer: Offer,
 }
 
+// Fixed memory, and no heap; and a count past the most is kept, since by it a set-up is a bad one (`good_count`).
 #[derive(Clone, Copy)]
 pub struct SetUp {
     pub settings: [Setting; PORTS],

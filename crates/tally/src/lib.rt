@@ -57,6 +57,8 @@ pub fn new() -> Tally
     }
 }
 
+// The numbers below are docs/REPLAY.md's, by which answers go into the checksum.
+
 // The number of a verdict, which is a place among the counts too.
 pub fn verdict_number(v: Verdict) -> u8
     ensures { (result ≡ verdict_number v) × (result < 11) }

@@ -7,7 +7,7 @@ ghost use Rattle.ground.specs.Buffers.{over, laid};
 ghost use Rattle.message.specs.Bytes.{two_bytes, bytes_of};
 ghost use Rattle.writing.specs.Writing.{Wrote, Writable, out_of_range, without_chunk, too_little_room, writing_tried};
 
-use ground::{Refusal, Verdict, refuse_if};
+use ground::{Refusal, Verdict, refuse};
 use message::Fields;
 
 fn out_of_range(f: Fields, n: usize) -> bool
@@ -40,9 +40,9 @@ fn tried(f: Fields, objects: &[u8], size: usize, place: usize) -> Verdict
     ensures { result ≡ writing_tried f objects.now size place }
 {
     let n = objects.len();
-    refuse_if(out_of_range(f, n), Refusal::OutOfRange)?;
-    refuse_if(without_chunk(f, objects), Refusal::NotChunked)?;
-    refuse_if(too_little_room(size, place, n), Refusal::NoRoom)
+    refuse(out_of_range(f, n), Refusal::OutOfRange)?;
+    refuse(without_chunk(f, objects), Refusal::NotChunked)?;
+    refuse(too_little_room(size, place, n), Refusal::NoRoom)
 }
 
 // The header writer: two bytes at the front of a part.
