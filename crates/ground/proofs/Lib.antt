@@ -2,4 +2,3 @@ pub mod Laid
 pub mod Parts
 pub mod Rows
 pub mod Settles
-pub mod Table

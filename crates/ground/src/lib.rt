@@ -81,7 +81,7 @@ pub fn refuse(test: bool, r: Refusal) -> Verdict
     refuse_if(test, r, Ok(()))
 }
 
-// The larger of two numbers.
+// The larger of two numbers: `max`, with the promise that is told in docs/PROMISES.md.
 pub fn larger(a: u32, b: u32) -> u32
     ensures { result ≡ max a b }
 {

@@ -14,8 +14,8 @@ use setup::SetUp;
 
 mod setups;
 
-// What the next field is. The bytes behind the port's number stand in the file; `behind` and `offer` hand
-// them out.
+// What the next field is, by docs/NIGHT.md's tags, which are read here and nowhere else. The bytes behind the
+// port's number stand in the file; `behind` and `offer` hand them out, so that this is copied and borrows nothing.
 #[derive(Clone, Copy)]
 pub enum Found {
     // Fewer bytes are left than the field has.

@@ -1,6 +1,6 @@
 // A rack group: its port groups, and the supply behind them.
 ghost use Rattle.std.specs.Prelude.{◌≡◌, ◌+◌, min, length};
-ghost use Rattle.night.specs.SetUps.{head_is, is_setting, setting_of, is_port, is_supply, placed, no_set_up, not_laid, supplied, group_in};
+ghost use Rattle.night.specs.SetUps.{head_is, is_setting, setting_of, is_port, is_supply, placed, no_set_up, group_in};
 
 use offers::NO_OFFER;
 use rack::PORTS;

@@ -3,7 +3,7 @@
 // notion of a field of bits.
 #![tactic(auto)]
 
-ghost use Rattle.std.specs.Prelude.{◌≡◌, take, ◌≤◌};
+ghost use Rattle.std.specs.Prelude.{◌≡◌};
 ghost use Rattle.offers.specs.Objects.{voltage_of, current_of, position_of, is_mismatch, operating_of, maximum_of};
 ghost use Rattle.offers.specs.Offers.{has, object_at, good_object, good_from, good_offer};
 ghost use Rattle.offers.specs.Requests.{fits, asked, fit_of, is_honoured};

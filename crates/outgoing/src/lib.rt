@@ -2,7 +2,7 @@
 // promises every byte, and rests on the headers that we send.
 #![tactic(auto)]
 
-ghost use Rattle.std.specs.Prelude.{◌≡◌, ◌+◌, ◌/◌, ◌%◌, ◌≤◌, set};
+ghost use Rattle.std.specs.Prelude.{◌≡◌};
 ghost use Rattle.outgoing.specs.Packets.{control_of, data_of};
 
 use sending::{header_bytes, our_fields};

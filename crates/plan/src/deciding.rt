@@ -41,22 +41,16 @@ fn still_runs(expired: bool, t: Option<Timer>) -> Option<Timer>
 fn led(e: Stimulus, expired: bool, p: Port, m: Met) -> Result<Plan, Refusal>
     ensures { result ≡ plan_led (leads (state_of p) e (facts_of p)) e expired p m }
 {
-    match stimuli::leads(p.state, e, p.facts()) {
-        None => Err(Refusal::NotAwaited),
-        Some(way) => {
-            let runs = still_runs(expired, p.runs());
-            Ok(goes(m, runs, source::change(p.state, e), false, way))
-        }
-    }
+    let way = stimuli::leads(p.state, e, p.facts()).ok_or(Refusal::NotAwaited)?;
+    let runs = still_runs(expired, p.runs());
+    Ok(goes(m, runs, source::change(p.state, e), false, way))
 }
 
 fn heard(h: Heard, p: Port, m: Met) -> Result<Plan, Refusal>
     ensures { result ≡ plan_heard (on_packet (state_of p) h) p m }
 {
-    match hearing::packet_leads(p.state, h) {
-        None => Err(Refusal::NotAwaited),
-        Some(way) => Ok(goes(m, p.runs(), Change::Nothing, is_judge(way), way)),
-    }
+    let way = hearing::packet_leads(p.state, h).ok_or(Refusal::NotAwaited)?;
+    Ok(goes(m, p.runs(), Change::Nothing, is_judge(way), way))
 }
 
 #[tactic(auto, unfolding(crate::specs::Plans::plan_of))]

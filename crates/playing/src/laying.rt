@@ -30,10 +30,7 @@ fn asked(a: Asked) -> Asked
 fn contract(c: Option<Asked>) -> Option<Asked>
     ensures { result ≡ c }
 {
-    match c {
-        None => None,
-        Some(a) => Some(asked(a)),
-    }
+    c.map(asked)
 }
 
 fn power(w: Power) -> Power

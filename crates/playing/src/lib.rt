@@ -109,7 +109,8 @@ fn held(slots: [Slot; PORTS], count: u8, supply: u32, tally: Tally, at: usize) -
     }
 }
 
-// The fields of a night, from the first on up to one that cannot be read.
+// The fields of a night, from the first on up to one that cannot be read. It is longer than other functions, and
+// keeps a rack in its parts: what a turn changes are locals, and a call would copy them (docs/SPEED.md).
 pub fn night(r: Rack, t: Tally, s: &[u8]) -> Played
     ensures { result ≡ night_in (length s.now) (begun r t) s.now }
 {

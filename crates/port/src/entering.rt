@@ -1,9 +1,8 @@
 // What is done where the rules lead: a way on, and the port that has gone it.
-ghost use Rattle.std.specs.Prelude.{◌≡◌, ◌+◌};
-ghost use Rattle.message.specs.Types as Types;
+ghost use Rattle.std.specs.Prelude.{◌≡◌};
 ghost use Rattle.port.specs.Parts.{to, power_is};
 ghost use Rattle.port.specs.Controls.{type_of};
-ghost use Rattle.port.specs.Entering.{doing, quiet, starts, supplies, transmits, tells, capabilities, offering, one_offer, unchannelled, hardened, enter};
+ghost use Rattle.port.specs.Entering.{starts, supplies, transmits, tells, capabilities, offering, one_offer, unchannelled, hardened, enter};
 ghost use Rattle.source.specs.declared.State.{State};
 ghost use Rattle.source.specs.declared.Way.{Way};
 ghost use Rattle.power.specs.Power.{judges, nothing_asked};

@@ -1,7 +1,7 @@
 // The step of a port: the protocol rules, what happens to held power, and where the states lead.
 ghost use Rattle.std.specs.Prelude.{◌≡◌};
 ghost use Rattle.port.specs.Parts.{power_is};
-ghost use Rattle.port.specs.Memory.{cleared, facts_of, running_in, no_crc, refused_by};
+ghost use Rattle.port.specs.Memory.{cleared, facts_of, running_in, refused_by};
 ghost use Rattle.port.specs.Steps.{with_change, answered, turn, happens, ending, acknowledged, failed, resent, by_outcome, nothing_done, replaced};
 ghost use Rattle.power.specs.declared.Change.{Change};
 ghost use Rattle.power.specs.Power.{changed};

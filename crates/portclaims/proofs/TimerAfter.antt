@@ -1,6 +1,7 @@
 -- The timer that runs after a call, by what was done in it. Assumes nothing.
 use mathlib.Core.Bool.{Bool, true, false, cond, ◌&&◌}
 use Rattle.source.specs.declared.Timer.{Timer}
+use Rattle.source.specs.declared.Timer.TheVariants.{SenderResponse, SourceCapability, PsHardReset}
 use Rattle.port.specs.declared.Answer.{Answer}
 use Rattle.port.specs.Calls.{Call}
 use Rattle.portclaims.proofs.Shapes.{is_expiry}
@@ -14,7 +15,9 @@ begun (Some u) t = Some u
 
 abbrev pub halted : Option Timer → Option Timer → Option Timer
 halted None t = t
-halted (Some u) t = None
+halted (Some SenderResponse) t = None
+halted (Some SourceCapability) t = None
+halted (Some PsHardReset) t = None
 
 abbrev pub is_fine : Verdict → Bool
 is_fine (Ok _) = true

@@ -11,7 +11,8 @@ use std::fmt;
 
 #[derive(Clone, Copy)]
 pub struct Power {
-    // The request that was last judged, accepted once the power answer is yes.
+    // The request that was last judged, accepted once the power answer is yes. "Numbers are zero, none or no at
+    // attach": this one is zero (`none`).
     pub accepted: Asked,
     // What was last agreed and put in force.
     pub contract: Option<Asked>,

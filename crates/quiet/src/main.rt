@@ -11,18 +11,18 @@ use rack::Rack;
 use std::fmt::Write as _;
 use std::io::{Read, Stderr, Stdin, Stdout, Write as _};
 use tally::Tally;
-use telling::{End, Input, PIECE, ROOM, Table};
+use telling::{End, Input, KEPT, PIECE, ROOM, Table};
 use text::Line;
 
 // Reads once, behind the bytes that are kept: how many bytes there are then, unless no more come. `replay`
-// has the same function: no contract can say what a read brings, and one of the rest would be its text
-// again.
+// has the same function: a public call of a library settles its result here (`NothingLoose`), and what a read
+// brings nothing settles.
 fn read_behind(mut from: Stdin, buf: &mut [u8; ROOM], i: Input) -> Result<usize, End>
     ensures { IfOk result (λ end. end ≤ 131200) }
 {
     // No field is so long that more is kept; the test shows that a piece has room behind it.
-    if ROOM - PIECE < i.kept {
-        return Err(End::Unread(i.place));
+    if KEPT < i.kept {
+        return Err(End::Unread(i.place.wrapping_add(i.kept as u64)));
     }
     match from.read(&mut buf[i.kept..i.kept + PIECE]) {
         Ok(0) => Err(End::Stopped(i.ending, i.place)),

@@ -1,16 +1,12 @@
--- Laws of a sum over the places 0 to n - 1: of one place more, of two sums that differ at one place, of one that leaves a place out. Assumes nothing.
+-- Laws of a sum over the places 0 to n - 1: of two sums that differ at one place, of one that leaves a place out. Assumes nothing.
 use Prim.Native.Nat.{ℕ, zero, suc, ◌+◌, ◌<◌, ◌≤◌}
 use native.Mathlib.Nat.{not-suc-le-zero}
-use native.Mathlib.Numerals.{add-one}
 use native.Mathlib.Omega.{arith}
 use mathlib.Core.Path.{◌≡◌, refl, sym, subst}
 use mathlib.Core.Bool.{Bool, true, false, cond}
 use lib.Dec.{eqb}
 use borrow.Author.Tests.{eqb-true, eqb-false, eq-eqb, ne_eqb}
 use Rattle.rack.specs.Ports.{total}
-
-pub total_more : (f : ℕ → ℕ) (n : ℕ) → total f (n + 1) ≡ total f n + f n
-total_more f n = rw (add-one n) refl
 
 -- not the last of n + 1 places, so one of n
 pub below : (n i : ℕ) → i < suc n → (i ≡ n → ⊥) → i < n

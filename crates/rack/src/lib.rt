@@ -134,6 +134,9 @@ impl Rack {
         }
     }
 
+    // The three calls have one shape. As one, with a closure for what comes to the port, it would have a promise
+    // longer than they are.
+
     // An event at the port of a number.
     pub fn event(self, number: u8, e: Event) -> RackAnswer
         ensures { result ≡ step self number (event e) }

@@ -11,17 +11,17 @@ mod what;
 use lines::{TEXT, Told};
 use rack::Rack;
 use std::io::{Read, Stderr, Stdin, Write};
-use telling::{End, Input, PIECE, ROOM};
+use telling::{End, Input, KEPT, PIECE, ROOM};
 
 // Reads once, behind the bytes that are kept: how many bytes there are then, unless no more come. `quiet`
-// has the same function: no contract can say what a read brings, and one of the rest would be its text
-// again.
+// has the same function: a public call of a library settles its result here (`NothingLoose`), and what a read
+// brings nothing settles.
 fn read_behind(mut from: Stdin, buf: &mut [u8; ROOM], i: Input) -> Result<usize, End>
     ensures { IfOk result (λ end. end ≤ 131200) }
 {
     // No field is so long that more is kept; the test shows that a piece has room behind it.
-    if ROOM - PIECE < i.kept {
-        return Err(End::Unread(i.place));
+    if KEPT < i.kept {
+        return Err(End::Unread(i.place.wrapping_add(i.kept as u64)));
     }
     match from.read(&mut buf[i.kept..i.kept + PIECE]) {
         Ok(0) => Err(End::Stopped(i.ending, i.place)),

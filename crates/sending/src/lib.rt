@@ -30,8 +30,7 @@ pub fn our_fields(message_type: u8, message_id: u8) -> Fields
 pub fn header_bytes(f: Fields, objects: u8) -> HeaderBytes
     ensures { result ≡ two_bytes (header_of f objects) }
 {
-    let h = message::pack(f, objects);
-    [(h % 256) as u8, (h / 256) as u8]
+    message::pack(f, objects).to_le_bytes()
 }
 
 fn good_crc_revision(revision: u8) -> u8

@@ -125,8 +125,8 @@ pub struct Facts {
     pub standing: Standing,
 }
 
-// Where the rules lead, unless nowhere, which is refusal 8: no further, on in the same state once the offer or the Soft_Reset is acknowledged, or into
-// a state. Hard is entered with a signal, or without one where a Hard Reset was heard.
+// Where the rules lead, unless nowhere, which is refusal 8: no further, on in the same state once the offer
+// or the Soft_Reset is acknowledged, or into a state. Hard is entered with a signal, or without one where a Hard Reset was heard.
 #[derive(Clone, Copy)]
 pub enum Way {
     Stay,
@@ -151,14 +151,14 @@ pub enum Way {
     Detached,
 }
 
-// A number for each state.
+// A number for each state, which the checksum of docs/REPLAY.md takes in.
 pub fn code_of(s: State) -> u8
     ensures { result ≡ code_of s }
 {
     s as u8
 }
 
-// Whether a state is this one.
+// Whether a state is this one: `==`, with the promise that is told in docs/PROMISES.md.
 pub fn is(s: State, t: State) -> bool
     ensures { result ≡ same s t }
 {

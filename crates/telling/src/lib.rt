@@ -17,6 +17,8 @@ pub use table::{StateColumn, Table};
 // longest field but for one byte, 65,537 bytes.
 pub const PIECE: usize = 65536;
 
+pub const KEPT: usize = 65600;
+
 pub const ROOM: usize = 131200;
 
 // How far a night was read, and answered.

@@ -3,7 +3,7 @@
 // every byte of the buffer.
 #![tactic(auto)]
 
-ghost use Rattle.std.specs.Prelude.{◌<◌, ◌≡◌, [], ◌∷◌, IsOk, is_ok, take};
+ghost use Rattle.std.specs.Prelude.{◌<◌, ◌≡◌, IsOk, is_ok, take};
 ghost use Rattle.text.specs.Text.{line, line_of, Writes, has_room, typed, glyph_of, hex_of, number_of, decimal_of, typed_bytes};
 
 use std::fmt;
@@ -66,7 +66,8 @@ impl<'a> Line<'a> {
         self.put(&[glyph(b / 16), glyph(b % 16)]);
     }
 
-    // Puts a small number in decimal.
+    // Puts a small number in decimal. `write!` does too, and says less: this one's promise settles every byte
+    // (docs/PROMISES.md), as the next one's does.
     pub fn put_number(&mut self, n: u8)
         ensures typed { line_of self.new ≡ typed (number_of n) (line_of self.old) }
         ensures same_buffer { self.new.buffer.ghost_name ≡ self.old.buffer.ghost_name }

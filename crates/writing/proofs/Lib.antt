@@ -1,2 +1,1 @@
-pub mod Headed
 pub mod Fine

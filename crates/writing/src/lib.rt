@@ -50,8 +50,7 @@ fn put_header(part: &mut [u8], h: u16)
     requires { 2 ≤ length part.old }
     ensures { part.new ≡ over (two_bytes h) part.old }
 {
-    part[0] = (h % 256) as u8;
-    part[1] = (h / 256) as u8;
+    part[..2].copy_from_slice(&h.to_le_bytes());
 }
 
 // The object writer: object bytes at the front of a part.
