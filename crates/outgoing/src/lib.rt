@@ -41,6 +41,7 @@ pub fn with_objects(message_type: u8, message_id: u8, objects: Objects, count: u
     let h = header_bytes(our_fields(message_type, message_id), count);
     let mut bytes = [0u8; 30];
     bytes[..2].copy_from_slice(&h);
+    // By `chunks_exact_mut` the proof did not close: behind its loop nothing is known of the bytes but their number.
     for (i, object) in objects.iter().enumerate() {
         let at = 2 + 4 * i;
         bytes[at..at + 4].copy_from_slice(&object.to_le_bytes());

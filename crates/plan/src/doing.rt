@@ -1,26 +1,13 @@
 // What is decided is done.
 ghost use Rattle.std.specs.Prelude.{◌≡◌};
-ghost use Rattle.port.specs.Memory.{refused_by};
-ghost use Rattle.port.specs.Steps.{replaced};
 ghost use Rattle.plan.specs.Plans.{after, judging, base, channel_after, is_heard, power_judging, transmits, resends, performed};
 
 use crate::{Plan, Prior};
 use channel::Channel;
-use ground::Refusal;
 use offers::{Asked, Offer};
 use outgoing::Packet;
-use port::{Actions, Answer, NO_ACTIONS, Port};
-use power::{Change, Power};
-
-fn replaced(p: Port, o: Offer) -> Port
-    ensures { result ≡ replaced p o }
-{
-    Port {
-        newest: o,
-        gone_out: false,
-        ..p
-    }
-}
+use port::{Actions, Answer, Port};
+use power::Power;
 
 // The port that goes on, its channel aside: as it was, cleared, or with its new offer.
 fn base(x: Prior, o: Offer, p: Port) -> Port
@@ -28,7 +15,7 @@ fn base(x: Prior, o: Offer, p: Port) -> Port
 {
     match x {
         Prior::Cleared => Port::new(p.newest),
-        Prior::Replaced => replaced(p, o),
+        Prior::Replaced => p.replaced(o),
         _ => p,
     }
 }
@@ -103,16 +90,4 @@ pub(crate) fn performed(p: Port, o: Offer, x: Plan) -> Answer
     let q = ready(x.prior, x.asks, x.asked, o, p);
     let turned = q.turn(p.state, x.crc, x.runs, x.change, x.way, x.asked);
     resends(x.prior, p.channel.pending.packet, turned)
-}
-
-// A refusal leaves the port as it was.
-pub(crate) fn refused(r: Refusal, p: Port) -> Answer
-    ensures { result ≡ refused_by r p }
-{
-    Answer {
-        verdict: Err(r),
-        port: p,
-        actions: NO_ACTIONS,
-        held: Change::Nothing,
-    }
 }

@@ -90,6 +90,6 @@ pub fn done(t: Slot, o: Offer, m: Met, beside: Beside) -> Answer
 {
     match deciding::decided(t.port, m) {
         Ok(x) => doing::performed(t.port, o, deciding::settled(t, x, beside)),
-        Err(r) => doing::refused(r, t.port),
+        Err(r) => t.port.refused(r),
     }
 }

@@ -65,6 +65,7 @@ pub fn heard_as(m: Meaning, message_type: u8, fit: Option<Asked>) -> Heard
     }
 }
 
+// What a Request asks that fits. What is not asked is zero, as `power` keeps it, so there is no Option.
 pub fn asked_by(fit: Option<Asked>) -> Asked
     ensures { result ≡ asked_by fit }
 {

@@ -41,7 +41,7 @@ fn answered(
 
 impl Port {
     // A refusal: the very same port, and no action.
-    pub(crate) fn refused(self, r: Refusal) -> Answer
+    pub fn refused(self, r: Refusal) -> Answer
         ensures { result ≡ refused_by r self }
     {
         Answer {
@@ -59,7 +59,7 @@ impl Port {
     }
 
     // With a new offer, which has not gone out.
-    pub(crate) fn replaced(self, o: Offer) -> Port
+    pub fn replaced(self, o: Offer) -> Port
         ensures { result ≡ replaced self o }
     {
         Port {

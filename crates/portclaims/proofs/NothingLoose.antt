@@ -71,6 +71,10 @@ use Rattle.port.proofs.Port.runs.Kinds as port-runs-k
 use Rattle.port.proofs.Port.runs.Reads as port-runs-c
 use Rattle.port.proofs.Port.turn.Kinds as port-turn-k
 use Rattle.port.proofs.Port.turn.Reads as port-turn-c
+use Rattle.port.proofs.Port.refused.Kinds as port-refused-k
+use Rattle.port.proofs.Port.refused.Reads as port-refused-c
+use Rattle.port.proofs.Port.replaced.Kinds as port-replaced-k
+use Rattle.port.proofs.Port.replaced.Reads as port-replaced-c
 use Rattle.port.proofs.packets.first_object.Kinds as port-first-object-k
 use Rattle.port.proofs.packets.first_object.Reads as port-first-object-c
 use Rattle.port.proofs.packets.meaning_in.Kinds as port-meaning-in-k
@@ -188,6 +192,12 @@ port_runs κs a x y s t = same
 
 pub port_turn : Settles 0 port-turn-k.ps port-turn-k.r port-turn-c.Post (λ κs x s. x)
 port_turn κs a x y s t = same
+
+pub port_refused : Settles 0 port-refused-k.ps port-refused-k.r port-refused-c.Post (λ κs x s. x)
+port_refused κs a x y s t = same
+
+pub port_replaced : Settles 0 port-replaced-k.ps port-replaced-k.r port-replaced-c.Post (λ κs x s. x)
+port_replaced κs a x y s t = same
 
 pub port_first_object : Settles 1 port-first-object-k.ps port-first-object-k.r port-first-object-c.Post (λ κs x s. x)
 port_first_object κs a x y s t = same

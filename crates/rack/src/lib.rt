@@ -72,7 +72,8 @@ impl Rack {
         self.slots[i]
     }
 
-    // What the other ports take of it.
+    // What the other ports take of it. `i < ports_in self`, here and below, is a fact about two values: a type for it
+    // would hold the rack beside the place, and copy 5 KB at each call.
     fn others(self, i: usize) -> u64
         requires { i < ports_in self }
         ensures { result ≡ others self i }

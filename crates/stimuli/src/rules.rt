@@ -100,7 +100,7 @@ pub(crate) fn on_failed(s: State, connected: bool) -> Option<Way>
 fn no_answer(pending: bool) -> Option<Way>
     ensures { result ≡ no_answer pending }
 {
-    if pending { None } else { Some(Way::Hard) }
+    (!pending).then_some(Way::Hard)
 }
 
 // The expiry of SenderResponse.
