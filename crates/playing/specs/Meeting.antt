@@ -1,5 +1,5 @@
 -- What the loop goes by: a field as `plan` takes it, and the size of loads.
-use Rattle.std.specs.Prelude.{List, ℕ, ◌<◌}
+use Rattle.std.specs.Prelude.{List, ℕ, ◌<◌, Some, None, Option}
 use Rattle.offers.specs.declared.Offer.{Offer}
 use Rattle.port.specs.declared.Port.{Port}
 use Rattle.port.specs.declared.Event.{Event}
@@ -13,6 +13,16 @@ use Rattle.plan.specs.declared.Met.{Met}
 use Rattle.tally.specs.declared.Tally.{Tally}
 use Rattle.playing.specs.declared.Played.{Played}
 use Rattle.plan.specs.Plans.{met_event, met_packet, met_offer}
+
+-- the number of the port that a field is for, where it is an event
+abbrev pub port_in : Found → Option ℕ
+port_in Found.Cut = None
+port_in Found.UnknownTag = None
+port_in Found.WrongLength = None
+port_in Found.SetUp = None
+port_in (Found.Event number e) = Some number
+port_in (Found.Packet number) = Some number
+port_in (Found.NewOffer number) = Some number
 
 abbrev pub met_in : Slot → Found → List ℕ → Met
 met_in t Found.Cut l = met_event t.port.channel Event.Attach

@@ -76,7 +76,7 @@ unfoldable pub night_in : ℕ → Played → List ℕ → Played
 night_in zero p l = p
 night_in (suc n) p l = cond (is_readable (next_of l) l) (night_in n (field_done (next_of l) p l) (drop (size_of l) l)) p
 
--- ---- for the loop: a field that is an event, and what comes to the port of its number
+-- ---- a field that is an event, and what comes to the port of its number
 abbrev pub is_event : Found → Bool
 is_event Found.Cut = false
 is_event Found.UnknownTag = false

@@ -1,7 +1,7 @@
 // A field as the loop meets it.
 ghost use Rattle.std.specs.Prelude.{◌≡◌};
-ghost use Rattle.playing.specs.Nights.{is_event, is_set_up, number_in, stepped_by};
-ghost use Rattle.playing.specs.Meeting.{met_in, offer_in};
+ghost use Rattle.playing.specs.Nights.{stepped_by};
+ghost use Rattle.playing.specs.Meeting.{port_in, met_in, offer_in};
 
 use night::Found;
 use offers::Offer;
@@ -9,27 +9,13 @@ use plan::Met;
 use port::{Answer, Event, Port};
 use slot::{Beside, Slot};
 
-pub(crate) fn is_event(found: Found) -> bool
-    ensures { result ≡ is_event found }
-{
-    matches!(
-        found,
-        Found::Event(_, _) | Found::Packet(_) | Found::NewOffer(_)
-    )
-}
-
-pub(crate) fn is_set_up(found: Found) -> bool
-    ensures { result ≡ is_set_up found }
-{
-    matches!(found, Found::SetUp)
-}
-
-pub(crate) fn number_in(found: Found) -> u8
-    ensures { result ≡ number_in found }
+// The number of the port that a field is for, where it is an event.
+pub(crate) fn port_in(found: Found) -> Option<u8>
+    ensures { result ≡ port_in found }
 {
     match found {
-        Found::Event(number, _) | Found::Packet(number) | Found::NewOffer(number) => number,
-        _ => 0,
+        Found::Event(number, _) | Found::Packet(number) | Found::NewOffer(number) => Some(number),
+        _ => None,
     }
 }
 
