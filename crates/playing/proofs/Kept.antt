@@ -28,8 +28,9 @@ use Rattle.night.specs.SetUps.{set_up_in}
 use Rattle.tally.specs.declared.Tally.{Tally}
 use Rattle.tally.specs.Counts.{told, set_up_told}
 use Rattle.playing.specs.declared.Played.{Played}
-use Rattle.playing.specs.Nights.{begun, answered, event_done, rack_after, set_up_done, field_done, is_readable, night_in, is_set_up, happening_in, stepped_by}
-use Rattle.playing.specs.Meeting.{port_in, held_by, Small}
+use Rattle.playing.specs.Nights.{begun, answered, event_done, rack_after, set_up_done, field_done, is_readable, night_in, is_set_up}
+use Rattle.playing.specs.Meeting.{turn_in, coming_as, stepped_by, held_by, Small}
+use Rattle.playing.specs.declared.turns.Turn.{Turn}
 use Rattle.playing.proofs.Sums.{rack_in, weighs, small_still, sum_still}
 use Rattle.std.specs.Prelude.{Ok, Err, is_some, Result, Some, None, Option, unwrap_or}
 use Rattle.ground.specs.declared.Refusal.{Refusal}
@@ -52,7 +53,7 @@ none_left zero p l h = refl
 none_left (suc n) p l h = absurd (not-suc-le-zero h)
 
 -- ---- what is found
-event_readable : (found : Found) (l : List ℕ) {number : ℕ} → port_in found ≡ Some number → is_readable found l ≡ true
+event_readable : (found : Found) (l : List ℕ) {turn : Turn} → turn_in found ≡ Some turn → is_readable found l ≡ true
 event_readable Found.Cut l e = true_not_false (sym (ap is_some e))
 event_readable Found.UnknownTag l e = true_not_false (sym (ap is_some e))
 event_readable Found.WrongLength l e = true_not_false (sym (ap is_some e))
@@ -61,17 +62,17 @@ event_readable (Found.Event number x) l e = refl
 event_readable (Found.Packet number) l e = refl
 event_readable (Found.NewOffer number) l e = refl
 
-event_done_lem : (found : Found) (p : Played) (l : List ℕ) (number : ℕ) → port_in found ≡ Some number → field_done found p l ≡ event_done p number (happening_in found l) l
-event_done_lem Found.Cut p l number e = true_not_false (sym (ap is_some e))
-event_done_lem Found.UnknownTag p l number e = true_not_false (sym (ap is_some e))
-event_done_lem Found.WrongLength p l number e = true_not_false (sym (ap is_some e))
-event_done_lem Found.SetUp p l number e = true_not_false (sym (ap is_some e))
-event_done_lem (Found.Event n x) p l number e = ap (λ (o : Option ℕ). event_done p (unwrap_or o 0) (happening_in (Found.Event n x) l) l) e
-event_done_lem (Found.Packet n) p l number e = ap (λ (o : Option ℕ). event_done p (unwrap_or o 0) (happening_in (Found.Packet n) l) l) e
-event_done_lem (Found.NewOffer n) p l number e = ap (λ (o : Option ℕ). event_done p (unwrap_or o 0) (happening_in (Found.NewOffer n) l) l) e
+event_done_lem : (found : Found) (p : Played) (l : List ℕ) (turn : Turn) → turn_in found ≡ Some turn → field_done found p l ≡ event_done p turn.number (coming_as turn.coming l) l
+event_done_lem Found.Cut p l turn e = true_not_false (sym (ap is_some e))
+event_done_lem Found.UnknownTag p l turn e = true_not_false (sym (ap is_some e))
+event_done_lem Found.WrongLength p l turn e = true_not_false (sym (ap is_some e))
+event_done_lem Found.SetUp p l turn e = true_not_false (sym (ap is_some e))
+event_done_lem (Found.Event n x) p l turn e = ap (λ (o : Option Turn). event_done p (unwrap_or o turn).number (coming_as (unwrap_or o turn).coming l) l) e
+event_done_lem (Found.Packet n) p l turn e = ap (λ (o : Option Turn). event_done p (unwrap_or o turn).number (coming_as (unwrap_or o turn).coming l) l) e
+event_done_lem (Found.NewOffer n) p l turn e = ap (λ (o : Option Turn). event_done p (unwrap_or o turn).number (coming_as (unwrap_or o turn).coming l) l) e
 
 -- neither an event nor a set-up, or a set-up that is not laid out as it must be
-unreadable : (found : Found) (l : List ℕ) → port_in found ≡ None → (found ≡ Found.SetUp → ⊥) → is_readable found l ≡ false
+unreadable : (found : Found) (l : List ℕ) → turn_in found ≡ None → (found ≡ Found.SetUp → ⊥) → is_readable found l ≡ false
 unreadable Found.Cut l e k = refl
 unreadable Found.UnknownTag l e k = refl
 unreadable Found.WrongLength l e k = refl
@@ -89,8 +90,8 @@ unfolding is_whole next_of
 whole_found l true e h = leb-true (size_of l) (length l) e
 whole_found l false e h = absurd (h (rw e refl))
 
-event_whole : (l : List ℕ) {number : ℕ} → port_in (next_of l) ≡ Some number → size_of l ≤ length l
-event_whole l e = whole_found l (is_whole l) refl (λ q. true_not_false (sym (ap is_some e) ∙ ap (λ (x : Found). is_some (port_in x)) q))
+event_whole : (l : List ℕ) {turn : Turn} → turn_in (next_of l) ≡ Some turn → size_of l ≤ length l
+event_whole l e = whole_found l (is_whole l) refl (λ q. true_not_false (sym (ap is_some e) ∙ ap (λ (x : Found). is_some (turn_in x)) q))
 
 set_up_whole : (l : List ℕ) → next_of l ≡ Found.SetUp → size_of l ≤ length l
 set_up_whole l e = whole_found l (is_whole l) refl (λ q. true_not_false (ap is_set_up (sym e ∙ q)))
@@ -133,8 +134,8 @@ module _ {r : Rack} {t : Tally} {s : List ℕ} {slots : List Slot} {count supply
   reaches : size_of f ≤ length f → place + size_of f ≤ length s
   reaches h = omega (arith, inv.within, h, ap length isf ∙ length-drop place s)
 
-  pub event_reaches : {number : ℕ} → port_in found ≡ Some number → place + size_of f ≤ length s
-  event_reaches e = reaches (event_whole f (ap port_in (sym isfound) ∙ e))
+  pub event_reaches : {turn : Turn} → turn_in found ≡ Some turn → place + size_of f ≤ length s
+  event_reaches e = reaches (event_whole f (ap turn_in (sym isfound) ∙ e))
 
   pub set_up_reaches : found ≡ Found.SetUp → place + size_of f ≤ length s
   set_up_reaches e = reaches (set_up_whole f (sym isfound ∙ e))
@@ -146,7 +147,7 @@ module _ {r : Rack} {t : Tally} {s : List ℕ} {slots : List Slot} {count supply
   pub stops_unlaid : found ≡ Found.SetUp → is_some (set_up_in f) ≡ false → held_by slots count supply tally place ≡ night_in (length s) (begun r t) s
   stops_unlaid e k = stops (unlaid found f e k)
 
-  pub stops_unread : port_in found ≡ None → (found ≡ Found.SetUp → ⊥) → held_by slots count supply tally place ≡ night_in (length s) (begun r t) s
+  pub stops_unread : turn_in found ≡ None → (found ≡ Found.SetUp → ⊥) → held_by slots count supply tally place ≡ night_in (length s) (begun r t) s
   stops_unread e k = stops (unreadable found f e k)
 
   -- the loop goes on, with what the field came to
@@ -171,15 +172,15 @@ module _ {r : Rack} {t : Tally} {s : List ℕ} {slots : List Slot} {count supply
       }
 
   -- an event at a number that is not in the rack
-  module _ (number : ℕ) (e : port_in found ≡ Some number) where
-    by_number : field_done found (held_by slots count supply tally place) f ≡ event_done (held_by slots count supply tally place) number (happening_in found f) f
-    by_number = event_done_lem found (held_by slots count supply tally place) f number e
+  module _ (turn : Turn) (e : turn_in found ≡ Some turn) (number : ℕ) (isnumber : number ≡ turn.number) where
+    by_number : field_done found (held_by slots count supply tally place) f ≡ event_done (held_by slots count supply tally place) number (coming_as turn.coming f) f
+    by_number = event_done_lem found (held_by slots count supply tally place) f turn e ∙ ap (λ (n : ℕ). event_done (held_by slots count supply tally place) n (coming_as turn.coming f) f) (sym isnumber)
 
     pub absent : in_rack (rack_in slots count supply) number ≡ false → (tally' : Tally) → tally' ≡ told tally number (Err NotInRack) no_actions State.Detached State.Detached 0 →
         Kept r t s slots count supply sum tally' (place + size_of f) (left - 1)
     absent k tally' q =
         goes_on (event_readable found f e) (event_reaches e) slots count supply sum tally'
-        (by_number ∙ refused_there (rack_in slots count supply) tally place number (happening_in found f) f k ∙ ap (λ (x : Tally). held_by slots count supply x (place + size_of f)) (sym q))
+        (by_number ∙ refused_there (rack_in slots count supply) tally place number (coming_as turn.coming f) f k ∙ ap (λ (x : Tally). held_by slots count supply x (place + size_of f)) (sym q))
         inv.long inv.small inv.sum_is
 
     -- an event at a port of the rack
@@ -194,7 +195,7 @@ module _ {r : Rack} {t : Tally} {s : List ℕ} {slots : List Slot} {count supply
       pub can_weigh : (load_of slot ≤ sum) × (sum ≤ most_ports * 4294967295)
       can_weigh = rw isslot (weighs (rack_in slots count supply) sum i inv.sum_is inv.small place_is_in)
 
-      stepped : (a : Answer) → a ≡ stepped_by slot found f (sum - load_of slot) supply → (sum' : ℕ) (tally' : Tally) →
+      stepped : (a : Answer) → a ≡ stepped_by slot turn.coming f (sum - load_of slot) supply → (sum' : ℕ) (tally' : Tally) →
           sum' ≡ sum - load_of slot + load_of (record { port = a.port; share = slot.share; limit = slot.limit }) →
           load_of (record { port = a.port; share = slot.share; limit = slot.limit }) < 4294967296 →
           tally' ≡ told tally number a.verdict a.actions (state_of slot.port) (state_of a.port) a.port.power.held →
@@ -204,14 +205,14 @@ module _ {r : Rack} {t : Tally} {s : List ℕ} {slots : List Slot} {count supply
           let rack = rack_in slots count supply in
           let u : Slot = record { port = a.port; share = slot.share; limit = slot.limit } in
           let others_are : sum - load_of slot ≡ others rack i = rw (isslot, inv.sum_is) (all_but_this rack i place_is_in) in
-          let answer : answer_at rack (place_of number) (happening_in found f) ≡ a = rw (← isi, ← isslot, ← others_are) (sym isa) in
+          let answer : answer_at rack (place_of number) (coming_as turn.coming f) ≡ a = rw (← isi, ← isslot, ← others_are) (sym isa) in
           goes_on (event_readable found f e) (event_reaches e) (set slots i u) count supply sum' tally'
-          (by_number ∙ answered_there rack tally place number (happening_in found f) f a k (omega (arith, inside, isi)) answer ∙ rw (← isi, ← isslot, ← istally) refl)
+          (by_number ∙ answered_there rack tally place number (coming_as turn.coming f) f a k (omega (arith, inside, isi)) answer ∙ rw (← isi, ← isslot, ← istally) refl)
           (length-set slots i u ∙ inv.long) (small_still slots count supply i u inside inv.small light)
           (issum ∙ ap (λ (x : Slot). sum - load_of x + load_of u) isslot ∙ sum_still slots count supply i u inside sum inv.sum_is place_is_in)
 
       -- the same with the port laid out anew
-      pub present : (a : Answer) → a ≡ stepped_by slot found f (sum - load_of slot) supply → (q : Port) → q ≡ a.port → (sum' : ℕ) (tally' : Tally) →
+      pub present : (a : Answer) → a ≡ stepped_by slot turn.coming f (sum - load_of slot) supply → (q : Port) → q ≡ a.port → (sum' : ℕ) (tally' : Tally) →
           sum' ≡ sum - load_of slot + load_of (record { port = q; share = slot.share; limit = slot.limit }) →
           load_of (record { port = q; share = slot.share; limit = slot.limit }) < 4294967296 →
           tally' ≡ told tally number a.verdict a.actions (state_of slot.port) (state_of a.port) a.port.power.held →

@@ -125,7 +125,8 @@ pub fn night(r: Rack, t: Tally, s: &[u8]) -> Played
     for _ in 0..s.len() {
         let f = &s[at..];
         let found = night::next(f);
-        if let Some(number) = turns::port_in(found) {
+        if let Some(turn) = turns::turn_in(found) {
+            let number = turn.number;
             at += night::size(f);
             if is_in(count, number) {
                 let i = (number - 1) as usize;
@@ -136,7 +137,7 @@ pub fn night(r: Rack, t: Tally, s: &[u8]) -> Played
                     others: total - was as u64,
                     supply,
                 };
-                let a = turns::stepped(t, found, f, beside);
+                let a = turns::stepped(t, turn.coming, f, beside);
                 let q = laying::port(a.port);
                 let u = Slot { port: q, ..t };
                 slots[i] = u;
