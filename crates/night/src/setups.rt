@@ -2,9 +2,8 @@
 ghost use Rattle.std.specs.Prelude.{◌≡◌, ◌+◌, min, length};
 ghost use Rattle.night.specs.SetUps.{head_is, is_setting, setting_of, is_port, is_supply, placed, no_set_up, group_in};
 
-use offers::NO_OFFER;
 use rack::PORTS;
-use setup::{SetUp, Setting};
+use setup::{NO_SET_UP, SetUp, Setting};
 
 // Whether a field's tag and length stand at a place.
 #[tactic(auto, unfolding(crate::specs::Fields::tag_of, crate::specs::SetUps::head_is))]
@@ -86,26 +85,11 @@ fn placed(u: SetUp, s: Setting) -> SetUp
     more
 }
 
-fn no_set_up() -> SetUp
-    ensures { result ≡ no_set_up }
-{
-    let nobody = Setting {
-        share: 0,
-        limit: 0,
-        offer: NO_OFFER,
-    };
-    SetUp {
-        settings: [nobody; PORTS],
-        count: 0,
-        supply: 0,
-    }
-}
-
 // The set-up of a rack group's value.
 pub(crate) fn group_in(s: &[u8]) -> Option<SetUp>
     ensures { result ≡ group_in (length s.now) no_set_up s.now }
 {
-    let mut u = no_set_up();
+    let mut u = NO_SET_UP;
     let mut at: usize = 0;
     // There are at most as many groups as bytes, which is why it ends.
     for _ in 0..s.len() {

@@ -28,10 +28,11 @@ use Rattle.night.specs.SetUps.{set_up_in}
 use Rattle.tally.specs.declared.Tally.{Tally}
 use Rattle.tally.specs.Counts.{told, set_up_told}
 use Rattle.playing.specs.declared.Played.{Played}
-use Rattle.playing.specs.Nights.{begun, answered, event_done, rack_after, set_up_done, field_done, is_readable, night_in, is_event, is_set_up, number_in, happening_in, stepped_by}
-use Rattle.playing.specs.Meeting.{held_by, Small}
+use Rattle.playing.specs.Nights.{begun, answered, event_done, rack_after, set_up_done, field_done, is_readable, night_in, is_set_up}
+use Rattle.playing.specs.Meeting.{turn_in, coming_as, stepped_by, held_by, Small}
+use Rattle.playing.specs.declared.turns.Turn.{Turn}
 use Rattle.playing.proofs.Sums.{rack_in, weighs, small_still, sum_still}
-use Rattle.std.specs.Prelude.{Ok, Err, is_some, Result, Some}
+use Rattle.std.specs.Prelude.{Ok, Err, is_some, Result, Some, None, Option, unwrap_or}
 use Rattle.ground.specs.declared.Refusal.{Refusal}
 use Rattle.setup.specs.declared.SetUp.{SetUp}
 
@@ -52,45 +53,36 @@ none_left zero p l h = refl
 none_left (suc n) p l h = absurd (not-suc-le-zero h)
 
 -- ---- what is found
-event_readable : (found : Found) (l : List ℕ) → is_event found ≡ true → is_readable found l ≡ true
-event_readable Found.Cut l e = true_not_false (sym e)
-event_readable Found.UnknownTag l e = true_not_false (sym e)
-event_readable Found.WrongLength l e = true_not_false (sym e)
-event_readable Found.SetUp l e = true_not_false (sym e)
+event_readable : (found : Found) (l : List ℕ) {turn : Turn} → turn_in found ≡ Some turn → is_readable found l ≡ true
+event_readable Found.Cut l e = true_not_false (sym (ap is_some e))
+event_readable Found.UnknownTag l e = true_not_false (sym (ap is_some e))
+event_readable Found.WrongLength l e = true_not_false (sym (ap is_some e))
+event_readable Found.SetUp l e = true_not_false (sym (ap is_some e))
 event_readable (Found.Event number x) l e = refl
 event_readable (Found.Packet number) l e = refl
 event_readable (Found.NewOffer number) l e = refl
 
-event_done_lem : (found : Found) (p : Played) (l : List ℕ) → is_event found ≡ true → field_done found p l ≡ event_done p (number_in found) (happening_in found l) l
-event_done_lem Found.Cut p l e = true_not_false (sym e)
-event_done_lem Found.UnknownTag p l e = true_not_false (sym e)
-event_done_lem Found.WrongLength p l e = true_not_false (sym e)
-event_done_lem Found.SetUp p l e = true_not_false (sym e)
-event_done_lem (Found.Event number x) p l e = refl
-event_done_lem (Found.Packet number) p l e = refl
-event_done_lem (Found.NewOffer number) p l e = refl
-
-is_set_up_lem : (found : Found) → is_set_up found ≡ true → found ≡ Found.SetUp
-is_set_up_lem Found.Cut e = true_not_false (sym e)
-is_set_up_lem Found.UnknownTag e = true_not_false (sym e)
-is_set_up_lem Found.WrongLength e = true_not_false (sym e)
-is_set_up_lem Found.SetUp e = refl
-is_set_up_lem (Found.Event number x) e = true_not_false (sym e)
-is_set_up_lem (Found.Packet number) e = true_not_false (sym e)
-is_set_up_lem (Found.NewOffer number) e = true_not_false (sym e)
+event_done_lem : (found : Found) (p : Played) (l : List ℕ) (turn : Turn) → turn_in found ≡ Some turn → field_done found p l ≡ event_done p turn.number (coming_as turn.coming l) l
+event_done_lem Found.Cut p l turn e = true_not_false (sym (ap is_some e))
+event_done_lem Found.UnknownTag p l turn e = true_not_false (sym (ap is_some e))
+event_done_lem Found.WrongLength p l turn e = true_not_false (sym (ap is_some e))
+event_done_lem Found.SetUp p l turn e = true_not_false (sym (ap is_some e))
+event_done_lem (Found.Event n x) p l turn e = ap (λ (o : Option Turn). event_done p (unwrap_or o turn).number (coming_as (unwrap_or o turn).coming l) l) e
+event_done_lem (Found.Packet n) p l turn e = ap (λ (o : Option Turn). event_done p (unwrap_or o turn).number (coming_as (unwrap_or o turn).coming l) l) e
+event_done_lem (Found.NewOffer n) p l turn e = ap (λ (o : Option Turn). event_done p (unwrap_or o turn).number (coming_as (unwrap_or o turn).coming l) l) e
 
 -- neither an event nor a set-up, or a set-up that is not laid out as it must be
-unreadable : (found : Found) (l : List ℕ) → is_event found ≡ false → is_set_up found ≡ false → is_readable found l ≡ false
+unreadable : (found : Found) (l : List ℕ) → turn_in found ≡ None → (found ≡ Found.SetUp → ⊥) → is_readable found l ≡ false
 unreadable Found.Cut l e k = refl
 unreadable Found.UnknownTag l e k = refl
 unreadable Found.WrongLength l e k = refl
-unreadable Found.SetUp l e k = true_not_false k
-unreadable (Found.Event number x) l e k = true_not_false e
-unreadable (Found.Packet number) l e k = true_not_false e
-unreadable (Found.NewOffer number) l e k = true_not_false e
+unreadable Found.SetUp l e k = absurd (k refl)
+unreadable (Found.Event number x) l e k = true_not_false (ap is_some e)
+unreadable (Found.Packet number) l e k = true_not_false (ap is_some e)
+unreadable (Found.NewOffer number) l e k = true_not_false (ap is_some e)
 
-unlaid : (found : Found) (l : List ℕ) → is_set_up found ≡ true → is_some (set_up_in l) ≡ false → is_readable found l ≡ false
-unlaid found l e k = rw (is_set_up_lem found e) k
+unlaid : (found : Found) (l : List ℕ) → found ≡ Found.SetUp → is_some (set_up_in l) ≡ false → is_readable found l ≡ false
+unlaid found l e k = rw e k
 
 -- a field that is found is whole
 whole_found : (l : List ℕ) (b : Bool) → is_whole l ≡ b → (next_of l ≡ Found.Cut → ⊥) → size_of l ≤ length l
@@ -98,11 +90,11 @@ unfolding is_whole next_of
 whole_found l true e h = leb-true (size_of l) (length l) e
 whole_found l false e h = absurd (h (rw e refl))
 
-event_whole : (l : List ℕ) → is_event (next_of l) ≡ true → size_of l ≤ length l
-event_whole l e = whole_found l (is_whole l) refl (λ q. true_not_false (sym e ∙ ap is_event q))
+event_whole : (l : List ℕ) {turn : Turn} → turn_in (next_of l) ≡ Some turn → size_of l ≤ length l
+event_whole l e = whole_found l (is_whole l) refl (λ q. true_not_false (sym (ap is_some e) ∙ ap (λ (x : Found). is_some (turn_in x)) q))
 
-set_up_whole : (l : List ℕ) → is_set_up (next_of l) ≡ true → size_of l ≤ length l
-set_up_whole l e = whole_found l (is_whole l) refl (λ q. true_not_false (sym e ∙ ap is_set_up q))
+set_up_whole : (l : List ℕ) → next_of l ≡ Found.SetUp → size_of l ≤ length l
+set_up_whole l e = whole_found l (is_whole l) refl (λ q. true_not_false (ap is_set_up (sym e ∙ q)))
 
 -- ---- an event's answer, as the definition has it
 module _ (r : Rack) (tally : Tally) (place number : ℕ) (h : Happening) (f : List ℕ) where
@@ -142,20 +134,20 @@ module _ {r : Rack} {t : Tally} {s : List ℕ} {slots : List Slot} {count supply
   reaches : size_of f ≤ length f → place + size_of f ≤ length s
   reaches h = omega (arith, inv.within, h, ap length isf ∙ length-drop place s)
 
-  pub event_reaches : is_event found ≡ true → place + size_of f ≤ length s
-  event_reaches e = reaches (event_whole f (ap is_event (sym isfound) ∙ e))
+  pub event_reaches : {turn : Turn} → turn_in found ≡ Some turn → place + size_of f ≤ length s
+  event_reaches e = reaches (event_whole f (ap turn_in (sym isfound) ∙ e))
 
-  pub set_up_reaches : is_set_up found ≡ true → place + size_of f ≤ length s
-  set_up_reaches e = reaches (set_up_whole f (ap is_set_up (sym isfound) ∙ e))
+  pub set_up_reaches : found ≡ Found.SetUp → place + size_of f ≤ length s
+  set_up_reaches e = reaches (set_up_whole f (sym isfound ∙ e))
 
   -- the loop ends here
   stops : is_readable found f ≡ false → held_by slots count supply tally place ≡ night_in (length s) (begun r t) s
   stops e = sym (inv.rest ∙ read_no_more left (held_by slots count supply tally place) (drop place s) (subst (λ (l : List ℕ). is_readable (next_of l) l ≡ false) isf (subst (λ (x : Found). is_readable x f ≡ false) isfound e)))
 
-  pub stops_unlaid : is_set_up found ≡ true → is_some (set_up_in f) ≡ false → held_by slots count supply tally place ≡ night_in (length s) (begun r t) s
+  pub stops_unlaid : found ≡ Found.SetUp → is_some (set_up_in f) ≡ false → held_by slots count supply tally place ≡ night_in (length s) (begun r t) s
   stops_unlaid e k = stops (unlaid found f e k)
 
-  pub stops_unread : is_event found ≡ false → is_set_up found ≡ false → held_by slots count supply tally place ≡ night_in (length s) (begun r t) s
+  pub stops_unread : turn_in found ≡ None → (found ≡ Found.SetUp → ⊥) → held_by slots count supply tally place ≡ night_in (length s) (begun r t) s
   stops_unread e k = stops (unreadable found f e k)
 
   -- the loop goes on, with what the field came to
@@ -180,15 +172,15 @@ module _ {r : Rack} {t : Tally} {s : List ℕ} {slots : List Slot} {count supply
       }
 
   -- an event at a number that is not in the rack
-  module _ (e : is_event found ≡ true) (number : ℕ) (isnumber : number ≡ number_in found) where
-    by_number : field_done found (held_by slots count supply tally place) f ≡ event_done (held_by slots count supply tally place) number (happening_in found f) f
-    by_number = event_done_lem found (held_by slots count supply tally place) f e ∙ ap (λ (n : ℕ). event_done (held_by slots count supply tally place) n (happening_in found f) f) (sym isnumber)
+  module _ (turn : Turn) (e : turn_in found ≡ Some turn) (number : ℕ) (isnumber : number ≡ turn.number) where
+    by_number : field_done found (held_by slots count supply tally place) f ≡ event_done (held_by slots count supply tally place) number (coming_as turn.coming f) f
+    by_number = event_done_lem found (held_by slots count supply tally place) f turn e ∙ ap (λ (n : ℕ). event_done (held_by slots count supply tally place) n (coming_as turn.coming f) f) (sym isnumber)
 
     pub absent : in_rack (rack_in slots count supply) number ≡ false → (tally' : Tally) → tally' ≡ told tally number (Err NotInRack) no_actions State.Detached State.Detached 0 →
         Kept r t s slots count supply sum tally' (place + size_of f) (left - 1)
     absent k tally' q =
         goes_on (event_readable found f e) (event_reaches e) slots count supply sum tally'
-        (by_number ∙ refused_there (rack_in slots count supply) tally place number (happening_in found f) f k ∙ ap (λ (x : Tally). held_by slots count supply x (place + size_of f)) (sym q))
+        (by_number ∙ refused_there (rack_in slots count supply) tally place number (coming_as turn.coming f) f k ∙ ap (λ (x : Tally). held_by slots count supply x (place + size_of f)) (sym q))
         inv.long inv.small inv.sum_is
 
     -- an event at a port of the rack
@@ -203,7 +195,7 @@ module _ {r : Rack} {t : Tally} {s : List ℕ} {slots : List Slot} {count supply
       pub can_weigh : (load_of slot ≤ sum) × (sum ≤ most_ports * 4294967295)
       can_weigh = rw isslot (weighs (rack_in slots count supply) sum i inv.sum_is inv.small place_is_in)
 
-      stepped : (a : Answer) → a ≡ stepped_by slot found f (sum - load_of slot) supply → (sum' : ℕ) (tally' : Tally) →
+      stepped : (a : Answer) → a ≡ stepped_by slot turn.coming f (sum - load_of slot) supply → (sum' : ℕ) (tally' : Tally) →
           sum' ≡ sum - load_of slot + load_of (record { port = a.port; share = slot.share; limit = slot.limit }) →
           load_of (record { port = a.port; share = slot.share; limit = slot.limit }) < 4294967296 →
           tally' ≡ told tally number a.verdict a.actions (state_of slot.port) (state_of a.port) a.port.power.held →
@@ -213,14 +205,14 @@ module _ {r : Rack} {t : Tally} {s : List ℕ} {slots : List Slot} {count supply
           let rack = rack_in slots count supply in
           let u : Slot = record { port = a.port; share = slot.share; limit = slot.limit } in
           let others_are : sum - load_of slot ≡ others rack i = rw (isslot, inv.sum_is) (all_but_this rack i place_is_in) in
-          let answer : answer_at rack (place_of number) (happening_in found f) ≡ a = rw (← isi, ← isslot, ← others_are) (sym isa) in
+          let answer : answer_at rack (place_of number) (coming_as turn.coming f) ≡ a = rw (← isi, ← isslot, ← others_are) (sym isa) in
           goes_on (event_readable found f e) (event_reaches e) (set slots i u) count supply sum' tally'
-          (by_number ∙ answered_there rack tally place number (happening_in found f) f a k (omega (arith, inside, isi)) answer ∙ rw (← isi, ← isslot, ← istally) refl)
+          (by_number ∙ answered_there rack tally place number (coming_as turn.coming f) f a k (omega (arith, inside, isi)) answer ∙ rw (← isi, ← isslot, ← istally) refl)
           (length-set slots i u ∙ inv.long) (small_still slots count supply i u inside inv.small light)
           (issum ∙ ap (λ (x : Slot). sum - load_of x + load_of u) isslot ∙ sum_still slots count supply i u inside sum inv.sum_is place_is_in)
 
       -- the same with the port laid out anew
-      pub present : (a : Answer) → a ≡ stepped_by slot found f (sum - load_of slot) supply → (q : Port) → q ≡ a.port → (sum' : ℕ) (tally' : Tally) →
+      pub present : (a : Answer) → a ≡ stepped_by slot turn.coming f (sum - load_of slot) supply → (q : Port) → q ≡ a.port → (sum' : ℕ) (tally' : Tally) →
           sum' ≡ sum - load_of slot + load_of (record { port = q; share = slot.share; limit = slot.limit }) →
           load_of (record { port = q; share = slot.share; limit = slot.limit }) < 4294967296 →
           tally' ≡ told tally number a.verdict a.actions (state_of slot.port) (state_of a.port) a.port.power.held →
@@ -230,14 +222,14 @@ module _ {r : Rack} {t : Tally} {s : List ℕ} {slots : List Slot} {count supply
           rw isq (stepped a isa sum' tally' (subst (λ (p : Port). sum' ≡ sum - load_of slot + load_of (u p)) isq issum) (subst (λ (p : Port). load_of (u p) < 4294967296) isq light) istally)
 
   -- a set-up that is laid out as it must be
-  module _ (e : is_set_up found ≡ true) (u : SetUp) (is_laid : set_up_in f ≡ Some u) where
+  module _ (e : found ≡ Found.SetUp) (u : SetUp) (is_laid : set_up_in f ≡ Some u) where
     laid : is_readable found f ≡ true
-    laid = rw (is_set_up_lem found e, is_laid) refl
+    laid = rw (e, is_laid) refl
 
     set_up_there : (started : Result Rack Refusal) → accepted_set_up u ≡ started → (tally' : Tally) → tally' ≡ set_up_told tally (verdict_of started) →
         field_done found (held_by slots count supply tally place) f ≡ record { rack = rack_after (verdict_of started) (rack_or_none started) (rack_in slots count supply); tally = tally'; at = place + size_of f }
     unfolding set_up_done
-    set_up_there started isstarted tally' istally = rw (is_set_up_lem found e, is_laid, isstarted, istally) refl
+    set_up_there started isstarted tally' istally = rw (e, is_laid, isstarted, istally) refl
 
     pub refused_set_up : (no' : Refusal) → accepted_set_up u ≡ Err no' → (tally' : Tally) → tally' ≡ set_up_told tally (Err no') → Kept r t s slots count supply sum tally' (place + size_of f) (left - 1)
     refused_set_up no' bad tally' istally = goes_on laid (set_up_reaches e) slots count supply sum tally' (set_up_there (Err no') bad tally' istally) inv.long inv.small inv.sum_is

@@ -2,22 +2,16 @@
 use Prim.Native.Nat.{ℕ}
 use mathlib.Core.Path.{◌≡◌}
 use mathlib.Core.List.{List}
-use Rattle.port.specs.declared.Event.{Event}
 use Rattle.port.specs.Calls as Port
 use Rattle.slot.specs.declared.Slot.{Slot}
-use Rattle.night.specs.declared.Found.{Found}
 use Rattle.night.specs.Events.{behind_of, offer_of}
 use Rattle.plan.specs.Plans.{done_of}
 use Rattle.plan.proofs.SameAsStepping.{event_alike, packet_alike, offer_alike}
-use Rattle.playing.specs.Nights.{stepped_by}
-use Rattle.playing.specs.Meeting.{met_in, offer_in}
+use Rattle.playing.specs.declared.turns.Coming.{Coming}
+use Rattle.playing.specs.Meeting.{met_in, offer_in, stepped_by}
 
-pub as_stepped : (t : Slot) (found : Found) (l : List ℕ) (others supply : ℕ) → done_of t (offer_in t.port found l) (met_in t found l) others supply ≡ stepped_by t found l others supply
+pub as_stepped : (t : Slot) (coming : Coming) (l : List ℕ) (others supply : ℕ) → done_of t (offer_in t.port coming l) (met_in t coming l) others supply ≡ stepped_by t coming l others supply
 unfolding stepped_by Port.step
-as_stepped t Found.Cut l others supply = event_alike t t.port.newest others supply Event.Attach
-as_stepped t Found.UnknownTag l others supply = event_alike t t.port.newest others supply Event.Attach
-as_stepped t Found.WrongLength l others supply = event_alike t t.port.newest others supply Event.Attach
-as_stepped t Found.SetUp l others supply = event_alike t t.port.newest others supply Event.Attach
-as_stepped t (Found.Event number e) l others supply = event_alike t t.port.newest others supply e
-as_stepped t (Found.Packet number) l others supply = packet_alike t t.port.newest others supply (behind_of l)
-as_stepped t (Found.NewOffer number) l others supply = offer_alike t (offer_of l) others supply
+as_stepped t (Coming.Event e) l others supply = event_alike t t.port.newest others supply e
+as_stepped t Coming.Packet l others supply = packet_alike t t.port.newest others supply (behind_of l)
+as_stepped t Coming.NewOffer l others supply = offer_alike t (offer_of l) others supply

@@ -2,16 +2,12 @@
 -- docs/REPLAY.md what is counted.
 use Rattle.std.specs.Prelude.{ℕ, zero, suc, ◌+◌, Bool, true, false, cond, List, drop, Ok, Err, is_some, Result}
 use Rattle.source.specs.declared.State.{State}
-use Rattle.port.specs.declared.Answer.{Answer}
 use Rattle.port.specs.declared.Event.{Event}
 use Rattle.port.specs.Memory.{state_of}
-use Rattle.port.specs.Calls as Port
-use Rattle.slot.specs.declared.Slot.{Slot}
-use Rattle.slot.specs.Answers.{settled}
 use Rattle.rack.specs.declared.Rack.{Rack}
 use Rattle.rack.specs.declared.RackAnswer.{RackAnswer}
 use Rattle.rack.specs.Ports.{at, in_rack, place_of}
-use Rattle.rack.specs.Steps.{Happening, event, packet, new_offer, call_of, step}
+use Rattle.rack.specs.Steps.{Happening, event, packet, new_offer, step}
 use Rattle.setup.specs.SetUps.{accepted_set_up, verdict_of, rack_or_none}
 use Rattle.night.specs.declared.Found.{Found}
 use Rattle.night.specs.Fields.{size_of}
@@ -76,7 +72,7 @@ unfoldable pub night_in : ℕ → Played → List ℕ → Played
 night_in zero p l = p
 night_in (suc n) p l = cond (is_readable (next_of l) l) (night_in n (field_done (next_of l) p l) (drop (size_of l) l)) p
 
--- ---- for the loop: a field that is an event, and what comes to the port of its number
+-- ---- a field that is an event, and what comes to the port of its number
 abbrev pub is_event : Found → Bool
 is_event Found.Cut = false
 is_event Found.UnknownTag = false
@@ -113,7 +109,3 @@ happening_in Found.SetUp l = event Event.Attach
 happening_in (Found.Event number e) l = event e
 happening_in (Found.Packet number) l = packet (behind_of l)
 happening_in (Found.NewOffer number) l = new_offer (offer_of l)
-
--- what a port answers to it beside others that take so much of the supply
-unfoldable pub stepped_by : Slot → Found → List ℕ → ℕ → ℕ → Answer
-stepped_by t found l others supply = settled t others supply (Port.step t.port (call_of t.limit (happening_in found l)))

@@ -13,6 +13,7 @@ ghost use Rattle.playing.specs.Nights.{begun, night_in};
 ghost use Rattle.playing.specs.Meeting.{held_by, Small};
 
 use ground::Refusal;
+use night::Found;
 use port::{Answer, NO_ACTIONS};
 use rack::{PORTS, Rack};
 use slot::{Beside, Slot};
@@ -124,9 +125,9 @@ pub fn night(r: Rack, t: Tally, s: &[u8]) -> Played
     for _ in 0..s.len() {
         let f = &s[at..];
         let found = night::next(f);
-        if turns::is_event(found) {
+        if let Some(turn) = turns::turn_in(found) {
+            let number = turn.number;
             at += night::size(f);
-            let number = turns::number_in(found);
             if is_in(count, number) {
                 let i = (number - 1) as usize;
                 let t = slots[i];
@@ -136,7 +137,7 @@ pub fn night(r: Rack, t: Tally, s: &[u8]) -> Played
                     others: total - was as u64,
                     supply,
                 };
-                let a = turns::stepped(t, found, f, beside);
+                let a = turns::stepped(t, turn.coming, f, beside);
                 let q = laying::port(a.port);
                 let u = Slot { port: q, ..t };
                 slots[i] = u;
@@ -150,27 +151,27 @@ pub fn night(r: Rack, t: Tally, s: &[u8]) -> Played
             tally = nobody(tally, number);
             continue;
         }
-        if turns::is_set_up(found) {
-            let Some(u) = night::set_up(f) else {
-                return held(slots, count, supply, tally, at);
-            };
-            at += night::size(f);
-            match setup::set_up(u) {
-                Ok(rack) => {
-                    tally = tally.set_up_told(Ok(()));
-                    slots = rack.slots;
-                    count = rack.count;
-                    supply = rack.supply;
-                    total = summed(rack);
-                    continue;
-                }
-                Err(no) => {
-                    tally = tally.set_up_told(Err(no));
-                    continue;
-                }
+        let Found::SetUp = found else {
+            return held(slots, count, supply, tally, at);
+        };
+        let Some(u) = night::set_up(f) else {
+            return held(slots, count, supply, tally, at);
+        };
+        at += night::size(f);
+        match setup::set_up(u) {
+            Ok(rack) => {
+                tally = tally.set_up_told(Ok(()));
+                slots = rack.slots;
+                count = rack.count;
+                supply = rack.supply;
+                total = summed(rack);
+                continue;
+            }
+            Err(no) => {
+                tally = tally.set_up_told(Err(no));
+                continue;
             }
         }
-        return held(slots, count, supply, tally, at);
     }
     held(slots, count, supply, tally, at)
 }

@@ -1,7 +1,6 @@
 // A field as the loop meets it.
 ghost use Rattle.std.specs.Prelude.{◌≡◌};
-ghost use Rattle.playing.specs.Nights.{is_event, is_set_up, number_in, stepped_by};
-ghost use Rattle.playing.specs.Meeting.{met_in, offer_in};
+ghost use Rattle.playing.specs.Meeting.{turn_in, met_in, offer_in, stepped_by};
 
 use night::Found;
 use offers::Offer;
@@ -9,57 +8,59 @@ use plan::Met;
 use port::{Answer, Event, Port};
 use slot::{Beside, Slot};
 
-pub(crate) fn is_event(found: Found) -> bool
-    ensures { result ≡ is_event found }
-{
-    matches!(
-        found,
-        Found::Event(_, _) | Found::Packet(_) | Found::NewOffer(_)
-    )
+// What comes to a port. The bytes of a packet and of a new offer stand in the field.
+#[derive(Clone, Copy)]
+pub(crate) enum Coming {
+    Event(Event),
+    Packet,
+    NewOffer,
 }
 
-pub(crate) fn is_set_up(found: Found) -> bool
-    ensures { result ≡ is_set_up found }
-{
-    matches!(found, Found::SetUp)
+// An event: what comes, and to the port of which number.
+#[derive(Clone, Copy)]
+pub(crate) struct Turn {
+    pub number: u8,
+    pub coming: Coming,
 }
 
-pub(crate) fn number_in(found: Found) -> u8
-    ensures { result ≡ number_in found }
+// The event that a field is, where it is one.
+pub(crate) fn turn_in(found: Found) -> Option<Turn>
+    ensures { result ≡ turn_in found }
 {
-    match found {
-        Found::Event(number, _) | Found::Packet(number) | Found::NewOffer(number) => number,
-        _ => 0,
-    }
+    let (number, coming) = match found {
+        Found::Event(number, e) => (number, Coming::Event(e)),
+        Found::Packet(number) => (number, Coming::Packet),
+        Found::NewOffer(number) => (number, Coming::NewOffer),
+        _ => return None,
+    };
+    Some(Turn { number, coming })
 }
 
-// What comes to the port; of what is no event, anything.
-fn met(t: Slot, found: Found, f: &[u8]) -> Met
-    ensures { result ≡ met_in t found f.now }
+fn met(t: Slot, coming: Coming, f: &[u8]) -> Met
+    ensures { result ≡ met_in t coming f.now }
 {
     let p = t.port;
-    match found {
-        Found::Event(_, e) => plan::event(p, e),
-        Found::Packet(_) => plan::packet(p, night::behind(f)),
-        Found::NewOffer(_) => plan::new_offer(t.limit, night::offer(f)),
-        _ => plan::event(p, Event::Attach),
+    match coming {
+        Coming::Event(e) => plan::event(p, e),
+        Coming::Packet => plan::packet(p, night::behind(f)),
+        Coming::NewOffer => plan::new_offer(t.limit, night::offer(f)),
     }
 }
 
 // The new offer, where one has come.
-fn offer_in(p: Port, found: Found, f: &[u8]) -> Offer
-    ensures { result ≡ offer_in p found f.now }
+fn offer_in(p: Port, coming: Coming, f: &[u8]) -> Offer
+    ensures { result ≡ offer_in p coming f.now }
 {
-    match found {
-        Found::NewOffer(_) => night::offer(f),
+    match coming {
+        Coming::NewOffer => night::offer(f),
         _ => p.newest,
     }
 }
 
 // What the port answers, beside the others.
-pub(crate) fn stepped(t: Slot, found: Found, f: &[u8], beside: Beside) -> Answer
-    ensures { result ≡ stepped_by t found f.now beside.others beside.supply }
+pub(crate) fn stepped(t: Slot, coming: Coming, f: &[u8], beside: Beside) -> Answer
+    ensures { result ≡ stepped_by t coming f.now beside.others beside.supply }
 {
-    let o = offer_in(t.port, found, f);
-    plan::done(t, o, met(t, found, f), beside)
+    let o = offer_in(t.port, coming, f);
+    plan::done(t, o, met(t, coming, f), beside)
 }

@@ -35,6 +35,17 @@ pub struct SetUp {
     pub supply: u32,
 }
 
+// A set-up with no port and no supply. What its settings say counts for nothing.
+pub const NO_SET_UP: SetUp = SetUp {
+    settings: [Setting {
+        share: 0,
+        limit: 0,
+        offer: NO_OFFER,
+    }; PORTS],
+    count: 0,
+    supply: 0,
+};
+
 // Whether a port may stand in a set-up.
 #[tactic(auto, unfolding(crate::specs::SetUps::good_setting))]
 fn good_setting(s: Setting) -> bool

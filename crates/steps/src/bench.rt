@@ -1,11 +1,11 @@
 // What stands on the bench, a port and beside it a rack, and what a line does to it.
 use crate::command::Coming;
 use ground::Verdict;
-use offers::{NO_OFFER, Offer};
+use offers::Offer;
 use port::{Actions, Answer, NO_ACTIONS, Port};
 use power::Change;
 use rack::{PORTS, Rack, RackAnswer};
-use setup::{SetUp, Setting};
+use setup::{NO_SET_UP, SetUp, Setting};
 
 // The port that stands alone and its limit; the rack, and the set-up in hand for the next one, which is put
 // together line by line.
@@ -25,20 +25,6 @@ pub struct Told {
     pub held: Change,
 }
 
-// A set-up with this supply and no port. What its settings say counts for nothing.
-fn begun(supply: u32) -> SetUp {
-    let nobody = Setting {
-        share: 0,
-        limit: 0,
-        offer: NO_OFFER,
-    };
-    SetUp {
-        settings: [nobody; PORTS],
-        count: 0,
-        supply,
-    }
-}
-
 impl Bench {
     // What stands there at first: a port with the paper's two objects, 5 V 3 A and 9 V 3 A, and no rack.
     pub fn new() -> Bench {
@@ -50,7 +36,7 @@ impl Bench {
             port: Port::new(offer),
             limit: 120000,
             rack: setup::no_rack(),
-            in_hand: begun(0),
+            in_hand: NO_SET_UP,
         }
     }
 
@@ -106,7 +92,10 @@ impl Bench {
 
     // A new set-up is in hand, with this supply and no port.
     pub fn begin(&mut self, supply: u32) {
-        self.in_hand = begun(supply);
+        self.in_hand = SetUp {
+            supply,
+            ..NO_SET_UP
+        };
     }
 
     // The set-up in hand has one port more. There is no room for one past the last: its number alone is

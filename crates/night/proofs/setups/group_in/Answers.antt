@@ -2,7 +2,7 @@
 use borrow.Author.Rules.{rules}
 use native.Mathlib.Omega.{arith}
 use Prim.Native.Nat.{◌+◌, ◌-◌}
-use mathlib.Core.Path.{◌≡◌, sym, ◌∙◌}
+use mathlib.Core.Path.{◌≡◌, refl, sym, ◌∙◌}
 use lib.ListN.{length}
 use Rattle.night.proofs.Groups.{ended, at_supply, at_neither, at_port_lem, within}
 use Rattle.night.proofs.setups.group_in.Goals as goal
@@ -11,7 +11,7 @@ pub loop-init : goal.loop-init
 loop-init c =
     let s = c.args.s.now in
     let all : length s - 0 ≡ length s = omega arith in
-    (search rules, rw (c.no_set_up-u.ensures, all))
+    (search rules, rw all refl)
 
 pub returns-then-is_supply : goal.returns-then-is_supply
 returns-then-is_supply c =
