@@ -42,10 +42,6 @@ pub struct Input {
     ghost kept: { count ≤ 64 },
 }
 
-fn digit_of(c: u8) -> Option<u8> {
-    Some(char::from(c).to_digit(16)? as u8)
-}
-
 impl Input {
     pub fn new() -> Input {
         Input {
@@ -88,10 +84,11 @@ impl Input {
     }
 
     fn digit(&mut self, c: u8) {
-        let Some(digit) = digit_of(c) else {
+        let Some(digit) = char::from(c).to_digit(16) else {
             self.odd = true;
             return;
         };
+        let digit = digit as u8;
         self.begun = true;
         match self.half.take() {
             Some(high) => self.byte(high << 4 | digit),

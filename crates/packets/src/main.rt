@@ -18,6 +18,8 @@ fn respond(mut to: Stdout, input: &Input) {
 }
 
 // Goes through a piece of the input, behind the line that has not ended, and answers each line that ends in it.
+// `steps` has the same, and the like of `respond` and `main`: a public call of a library settles its result
+// (`NothingLoose`), and what is read and written settles nothing.
 fn take_in(to: Stdout, input: &mut Input, piece: &[u8]) {
     for &c in piece {
         if c == b'\n' {

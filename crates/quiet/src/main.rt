@@ -31,7 +31,8 @@ fn read_behind(mut from: Stdin, buf: &mut [u8; ROOM], i: Input) -> Result<usize,
     }
 }
 
-// Reads once, and answers what can be answered of it.
+// Reads once, and answers what can be answered of it. `replay` has its own, and its own `play`, around its own
+// way to answer: what is read settles nothing, so that no library can have the turn.
 fn once(
     from: Stdin,
     buf: &mut [u8; ROOM],
@@ -60,7 +61,8 @@ fn play(from: Stdin, rack: &mut Rack, tally: &mut Tally) -> End {
     End::Stopped(input.ending, input.place)
 }
 
-// How the night ended, the counts, and the table; what failed is said on standard error too.
+// How the night ended, the counts, and the table; what failed is said on standard error too, as `replay` says
+// it: what is written settles nothing either.
 fn finish(mut to: Stdout, mut aside: Stderr, end: End, tally: &Tally, rack: &Rack) {
     let mut buffer = [0u8; 4096];
     let mut line = Line::new(&mut buffer);

@@ -4,17 +4,16 @@ ghost use Rattle.std.specs.Prelude.{◌≡◌, ◌+◌, ◌-◌, ◌%◌};
 ghost use Rattle.rack.specs.Ports.{most_ports};
 ghost use Rattle.fields.specs.Answers.{Through};
 
-use crate::answer::{put_answer, put_verdict};
 use crate::what::put_what;
 use fields::{Field, alone};
 use ground::Verdict;
 use night::Found;
-use port::Actions;
+use port::{Actions, NO_ACTIONS};
 use rack::{PORTS, Rack};
 use source::State;
 use std::fmt::{self, Write as _};
 use std::io::{Stdout, Write as _};
-use telling::{End, StateColumn, Table};
+use telling::{Answered, End, StateColumn, Table};
 use text::Line;
 
 // The text is written once there is so much of it; a line and a table have room behind that.
@@ -88,9 +87,7 @@ impl<'a> Told<'a> {
         let line = &mut self.line;
         write!(line, "{} | port {} | ", self.events, port_of(field))?;
         put_what(line, field)?;
-        line.put(b" | ");
-        put_answer(line, v, a)?;
-        writeln!(line, " | {}", StateColumn(state))
+        writeln!(line, " | {} | {}", Answered(v, &a), StateColumn(state))
     }
 
     // An event, its answer, and the state that it led to.
@@ -110,10 +107,12 @@ impl<'a> Told<'a> {
         if v.is_ok() && 0 < before.count {
             write!(line, "{}", Table(before))?;
         }
-        write!(line, "set-up | ports {} | supply {} | ", u.count, u.supply)?;
-        put_verdict(line, v)?;
-        line.put(b"\n");
-        Ok(())
+        let answered = Answered(v, &NO_ACTIONS);
+        writeln!(
+            line,
+            "set-up | ports {} | supply {} | {answered}",
+            u.count, u.supply
+        )
     }
 
     fn set_up(&mut self, before: &Rack, field: &[u8], v: Verdict) {

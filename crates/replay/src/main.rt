@@ -4,7 +4,6 @@
 
 ghost use Rattle.std.specs.Prelude.{◌≤◌, Result, IfOk};
 
-mod answer;
 mod lines;
 mod what;
 
@@ -30,7 +29,8 @@ fn read_behind(mut from: Stdin, buf: &mut [u8; ROOM], i: Input) -> Result<usize,
     }
 }
 
-// Reads once, and answers what can be answered of it.
+// Reads once, and answers what can be answered of it. `quiet` has its own, and its own `play`, around its own
+// way to answer: what is read settles nothing, so that no library can have the turn.
 fn once(
     from: Stdin,
     buf: &mut [u8; ROOM],
@@ -58,7 +58,7 @@ fn play(from: Stdin, rack: &mut Rack, told: &mut Told) -> End {
     End::Stopped(input.ending, input.place)
 }
 
-// What failed is said on standard error too.
+// What failed is said on standard error too, as `quiet` says it: what is written settles nothing either.
 fn complain(mut to: Stderr, end: End, written: bool) {
     if matches!(end, End::Unread(_)) {
         let _ = to.write_all(b"the night could not be read to its end\n");

@@ -2,68 +2,19 @@
 use crate::bench::{Bench, Told};
 use crate::command::{Command, understand};
 use crate::input::Input;
-use crate::memory::{bytes_of, put_memory};
-use port::{Actions, Supply};
+use crate::memory::put_memory;
 use rack::Rack;
 use std::fmt::{self, Write};
+use telling::Answered;
 use text::Line;
-
-// Parts an action from the one before it, unless it is the first.
-fn part(line: &mut Line, first: usize) -> fmt::Result {
-    if line.end == first {
-        return Ok(());
-    }
-    write!(line, "; ")
-}
-
-fn put_supply(line: &mut Line, x: Supply) -> fmt::Result {
-    match x {
-        Supply::Default => write!(line, "supply default"),
-        Supply::Position(n) => write!(line, "supply {n}"),
-    }
-}
-
-fn put_actions(line: &mut Line, a: &Actions) -> fmt::Result {
-    write!(line, "actions: ")?;
-    let first = line.end;
-    if let Some(crc) = &a.good_crc {
-        write!(line, "GoodCRC ")?;
-        line.put_bytes(crc);
-    }
-    if let Some(timer) = a.stop {
-        part(line, first)?;
-        write!(line, "stop {timer}")?;
-    }
-    if a.transmit.length != 0 {
-        part(line, first)?;
-        write!(line, "transmit ")?;
-        line.put_bytes(bytes_of(&a.transmit));
-    }
-    if a.hard_reset {
-        part(line, first)?;
-        write!(line, "signal Hard Reset")?;
-    }
-    if let Some(supply) = a.supply {
-        part(line, first)?;
-        put_supply(line, supply)?;
-    }
-    if let Some(timer) = a.start {
-        part(line, first)?;
-        write!(line, "start {timer}")?;
-    }
-    if line.end == first {
-        write!(line, "none")?;
-    }
-    Ok(())
-}
 
 // What is said of an event: its actions or the refusal, and what happened to held power.
 fn put_told(line: &mut Line, t: &Told) -> fmt::Result {
-    match t.verdict {
-        Ok(()) => put_actions(line, &t.actions)?,
-        Err(r) => write!(line, "refused {}, {r}", ground::number(r))?,
+    if t.verdict.is_ok() {
+        write!(line, "actions: ")?;
     }
-    write!(line, " | held: {} | ", t.held)
+    let answered = Answered(t.verdict, &t.actions);
+    write!(line, "{answered} | held: {} | ", t.held)
 }
 
 fn put_alone(line: &mut Line, t: Told, b: &Bench) -> fmt::Result {

@@ -1,16 +1,11 @@
 // A port's memory, as text.
 use channel::Channel;
 use offers::{Asked, Offer};
-use outgoing::Packet;
 use port::Port;
 use power::Power;
 use std::fmt::{self, Write};
+use telling::Sent;
 use text::Line;
-
-// The bytes of a packet, of which none is longer than its 30.
-pub fn bytes_of(m: &Packet) -> &[u8] {
-    &m.bytes[..(m.length as usize).min(30)]
-}
 
 fn yes_or_no(yes: bool) -> &'static str {
     if yes { "yes" } else { "no" }
@@ -22,15 +17,14 @@ fn put_channel(line: &mut Line, c: &Channel) -> fmt::Result {
         Some(id) => write!(line, ", stored {id}")?,
         None => write!(line, ", stored none")?,
     }
-    write!(line, ", pending ")?;
-    line.put_bytes(bytes_of(&c.pending.packet));
-    write!(line, ", retries {}", c.pending.retries)
+    let pending = Sent(&c.pending.packet);
+    write!(line, ", pending {pending}, retries {}", c.pending.retries)
 }
 
 // The objects' bytes as a message of ours has them, behind its header.
 fn put_offer(line: &mut Line, o: Offer) {
     let m = outgoing::with_objects(0, 0, o.objects, o.count);
-    if let [_, _, objects @ ..] = bytes_of(&m) {
+    if let Some(objects) = m.bytes.get(2..m.length as usize) {
         line.put_bytes(objects);
     }
 }

@@ -1,5 +1,5 @@
-// What the programs that play a night have in common: how far the night was read, how it ended, and the
-// table of a rack. It promises what is kept of a piece for the next one, and the place where the reading
+// What the programs say in common: what is said of an event, how far a night was read, how it ended, and
+// the table of a rack. It promises what is kept of a piece for the next one, and the place where the reading
 // goes on, for all bytes; it rests on `fields`.
 #![tactic(auto)]
 
@@ -9,8 +9,10 @@ ghost use Rattle.telling.specs.Inputs.{nothing_read, GoesOn};
 use fields::Ending;
 use std::fmt;
 
+mod answer;
 mod table;
 
+pub use answer::{Answered, Sent};
 pub use table::{StateColumn, Table};
 
 // A night is read a piece at a time. In front of a piece stands what is kept of the one before: at most the
