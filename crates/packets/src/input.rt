@@ -29,7 +29,7 @@ enum Room {
 #[derive(Clone, Copy)]
 pub struct Input {
     form: Form,
-    // The bytes before the `@`, at most 64 of them kept.
+    // The bytes before the `@`, at most 64 of them kept. Fixed memory, and no heap.
     bytes: [u8; 64],
     count: usize,
     room: Room,

@@ -5,7 +5,7 @@ const MOST: usize = 240;
 
 #[derive(Clone, Copy)]
 pub struct Input {
-    // The first characters, and how many there were; all that were too many count as one.
+    // The first characters, and how many there were; all that were too many count as one. Fixed memory, and no heap.
     chars: [u8; MOST],
     length: usize,
 }

@@ -3,7 +3,7 @@ ghost use Rattle.std.specs.Prelude.{◌≤◌, length};
 
 use offers::{NO_OFFER, Offer};
 
-// At most 64 bytes.
+// At most 64 bytes. Fixed memory, and no heap.
 #[derive(Clone, Copy)]
 pub struct Bytes {
     bytes: [u8; 64],
