@@ -8,16 +8,15 @@ use mathlib.Core.List.{List, [], ◌∷◌}
 use lib.ListN.{length, drop, length-drop}
 use lib.Seq.{drop-drop}
 use borrow.Author.Tests.{leb-true}
-use Rattle.std.specs.Prelude.{Option, Some, None, option_map, IfSome}
+use Rattle.std.specs.Prelude.{Option, Some, None, Result, Ok, Err, IfOk}
 use Rattle.rack.specs.declared.Rack.{Rack}
 use Rattle.setup.specs.declared.SetUp.{SetUp}
-use Rattle.setup.specs.SetUps.{accepted_set_up}
 use Rattle.night.specs.declared.Found.{Found}
 use Rattle.night.specs.Fields.{size_of, is_whole}
 use Rattle.night.specs.Events.{next_of}
 use Rattle.night.specs.SetUps.{set_up_in}
 use Rattle.fields.specs.declared.Field.{Field}
-use Rattle.fields.specs.Answers.{started_field, field_by, field_of, fields_in, last_rack, size_of_all, Through}
+use Rattle.fields.specs.Answers.{laid_field, field_by, field_of, fields_in, last_rack, size_of_all, Through}
 
 -- ---- a field does not reach past the end
 abbrev NotCut : Found → Type 0
@@ -35,10 +34,10 @@ whole_found l true e h = leb-true (size_of l) (length l) e
 whole_found l false e h = absurd (rw e at h)
 
 module _ (r : Rack) (l : List ℕ) where
-  abbrev Fits : Option Field → Type 0
-  Fits o = IfSome o (λ (f : Field). f.size ≤ length l)
+  abbrev Fits : Result Field Found → Type 0
+  Fits o = IfOk o (λ (f : Field). f.size ≤ length l)
 
-  by_laid : (laid : Option SetUp) (size : ℕ) → size ≤ length l → Fits (option_map (λ (u : SetUp). started_field r (accepted_set_up u) size) laid)
+  by_laid : (laid : Option SetUp) (size : ℕ) → size ≤ length l → Fits (laid_field r laid size)
   by_laid None size h = tt
   by_laid (Some u) size h = h
 
@@ -51,20 +50,20 @@ module _ (r : Rack) (l : List ℕ) where
   by_found (Found.Packet number) e = whole_found l (is_whole l) refl (subst NotCut e tt)
   by_found (Found.NewOffer number) e = whole_found l (is_whole l) refl (subst NotCut e tt)
 
-  pub fits : (f : Field) → field_of r l ≡ Some f → f.size ≤ length l
+  pub fits : (f : Field) → field_of r l ≡ Ok f → f.size ≤ length l
   unfolding field_of
   fits f e = subst Fits e (by_found (next_of l) refl)
 
 -- ---- the definition, a field at a time
-on : (n : ℕ) (r : Rack) (l : List ℕ) (f : Field) → 0 < n → field_of r l ≡ Some f → fields_in n r l ≡ f ∷ fields_in (n - 1) f.rack (drop f.size l)
+on : (n : ℕ) (r : Rack) (l : List ℕ) (f : Field) → 0 < n → field_of r l ≡ Ok f → fields_in n r l ≡ f ∷ fields_in (n - 1) f.rack (drop f.size l)
 unfolding fields_in
 on zero r l f h e = absurd (not-suc-le-zero h)
 on (suc n) r l f h e = let one_less : suc n - 1 ≡ n = omega arith in rw (e, one_less) refl
 
-no_more : (n : ℕ) (r : Rack) (l : List ℕ) → field_of r l ≡ None → fields_in n r l ≡ []
+no_more : (n : ℕ) (r : Rack) (l : List ℕ) (found : Found) → field_of r l ≡ Err found → fields_in n r l ≡ []
 unfolding fields_in
-no_more zero r l e = refl
-no_more (suc n) r l e = rw e refl
+no_more zero r l found e = refl
+no_more (suc n) r l found e = rw e refl
 
 none_left : (n : ℕ) (r : Rack) (l : List ℕ) → n ≤ 0 → fields_in n r l ≡ []
 unfolding fields_in
@@ -90,11 +89,11 @@ module _ {r : Rack} {l : List ℕ} {rack : Rack} {place left : ℕ} (g : Going r
   pub used_up : left ≤ 0 → Through r l rack place
   used_up h = ends (none_left left rack (drop place l) h)
 
-  module _ (s : List ℕ) (is : s ≡ drop place l) (o : Option Field) (iso : o ≡ field_of rack s) where
-    pub stops : o ≡ None → Through r l rack place
-    stops e = ends (ap (fields_in left rack) (sym is) ∙ no_more left rack s (sym iso ∙ e))
+  module _ (s : List ℕ) (is : s ≡ drop place l) (o : Result Field Found) (iso : o ≡ field_of rack s) where
+    pub stops : (found : Found) → o ≡ Err found → Through r l rack place
+    stops found e = ends (ap (fields_in left rack) (sym is) ∙ no_more left rack s found (sym iso ∙ e))
 
-    module _ (f : Field) (isf : o ≡ Some f) where
+    module _ (f : Field) (isf : o ≡ Ok f) where
       pub reaches : place + f.size ≤ length l
       reaches = omega (arith, g.within, fits rack s f (sym iso ∙ isf), ap length is ∙ length-drop place l)
 

@@ -1,5 +1,5 @@
 -- What a field of a night comes to over a rack, and all fields one after the other: the list of answers. docs/NIGHT.md says which fields there are.
-use Rattle.std.specs.Prelude.{ℕ, zero, suc, ◌+◌, ◌≡◌, List, [], ◌∷◌, length, drop, Ok, Err, Option, Some, None, option_map, Result}
+use Rattle.std.specs.Prelude.{ℕ, zero, suc, ◌+◌, ◌≡◌, List, [], ◌∷◌, length, drop, Ok, Err, Option, Some, None, Result}
 use Rattle.port.specs.Memory.{no_actions}
 use Rattle.rack.specs.declared.Rack.{Rack}
 use Rattle.rack.specs.declared.RackAnswer.{RackAnswer}
@@ -26,27 +26,31 @@ rack_after (Err r) new old = old
 abbrev pub started_field : Rack → Result Rack Refusal → ℕ → Field
 started_field r s size = record { found = Found.SetUp; verdict = verdict_of s; actions = no_actions; rack = rack_after (verdict_of s) (rack_or_none s) r; size = size }
 
-abbrev pub set_up_field : Rack → List ℕ → ℕ → Option Field
-set_up_field r l size = option_map (λ (u : SetUp). started_field r (accepted_set_up u) size) (set_up_in l)
+abbrev pub laid_field : Rack → Option SetUp → ℕ → Result Field Found
+laid_field r None size = Err Found.SetUp
+laid_field r (Some u) size = Ok (started_field r (accepted_set_up u) size)
 
--- "Nothing is skipped": what cannot be read comes to no answer, and changes nothing
-abbrev pub field_by : Found → Rack → List ℕ → Option Field
-field_by Found.Cut r l = None
-field_by Found.UnknownTag r l = None
-field_by Found.WrongLength r l = None
+abbrev pub set_up_field : Rack → List ℕ → ℕ → Result Field Found
+set_up_field r l size = laid_field r (set_up_in l) size
+
+-- "Nothing is skipped": what cannot be read comes to no answer, and changes nothing; what stands there is told
+abbrev pub field_by : Found → Rack → List ℕ → Result Field Found
+field_by Found.Cut r l = Err Found.Cut
+field_by Found.UnknownTag r l = Err Found.UnknownTag
+field_by Found.WrongLength r l = Err Found.WrongLength
 field_by Found.SetUp r l = set_up_field r l (size_of l)
-field_by (Found.Event number e) r l = Some (event_field (Found.Event number e) (step r number (event e)) (size_of l))
-field_by (Found.Packet number) r l = Some (event_field (Found.Packet number) (step r number (packet (behind_of l))) (size_of l))
-field_by (Found.NewOffer number) r l = Some (event_field (Found.NewOffer number) (step r number (new_offer (offer_of l))) (size_of l))
+field_by (Found.Event number e) r l = Ok (event_field (Found.Event number e) (step r number (event e)) (size_of l))
+field_by (Found.Packet number) r l = Ok (event_field (Found.Packet number) (step r number (packet (behind_of l))) (size_of l))
+field_by (Found.NewOffer number) r l = Ok (event_field (Found.NewOffer number) (step r number (new_offer (offer_of l))) (size_of l))
 
--- THE DEFINITION: what the first field comes to; none where it cannot be read
-unfoldable pub field_of : Rack → List ℕ → Option Field
+-- THE DEFINITION: what the first field comes to; or what stands there, where it cannot be read
+unfoldable pub field_of : Rack → List ℕ → Result Field Found
 field_of r l = field_by (next_of l) r l
 
 -- a field, and those behind it
-abbrev pub and_behind : Option Field → (Field → List Field) → List Field
-and_behind None behind = []
-and_behind (Some f) behind = f ∷ behind f
+abbrev pub and_behind : Result Field Found → (Field → List Field) → List Field
+and_behind (Err found) behind = []
+and_behind (Ok f) behind = f ∷ behind f
 
 -- ---- all fields, up to the first that cannot be read; at most so many
 unfoldable pub fields_in : ℕ → Rack → List ℕ → List Field

@@ -79,27 +79,30 @@ fn started(r: Rack, s: Result<Rack, Refusal>, size: usize) -> Field
 }
 
 // A set-up that is not laid out as it must be cannot be read.
-fn set_up(r: Rack, s: &[u8], size: usize) -> Option<Field>
+fn set_up(r: Rack, s: &[u8], size: usize) -> Result<Field, Found>
     ensures { result ≡ set_up_field r s.now size }
 {
-    night::set_up(s).map(|u| started(r, setup::set_up(u), size))
+    match night::set_up(s) {
+        Some(u) => Ok(started(r, setup::set_up(u), size)),
+        None => Err(Found::SetUp),
+    }
 }
 
-// What the first field of some bytes comes to over a rack; none where it cannot be read. Then it changes nothing, and
-// the reading stays before it.
+// What the first field of some bytes comes to over a rack; where it cannot be read, what stands there. Then it changes
+// nothing, and the reading stays before it.
 #[tactic(auto, unfolding(crate::specs::Answers::field_of))]
-pub fn first(r: Rack, s: &[u8]) -> Option<Field>
+pub fn first(r: Rack, s: &[u8]) -> Result<Field, Found>
     ensures { result ≡ field_of r s.now }
 {
     let found = night::next(s);
     let size = night::size(s);
     match found {
-        Found::Cut | Found::UnknownTag | Found::WrongLength => None,
+        Found::Cut | Found::UnknownTag | Found::WrongLength => Err(found),
         Found::SetUp => set_up(r, s, size),
-        Found::Event(number, e) => Some(answered(found, r.event(number, e), size)),
-        Found::Packet(number) => Some(answered(found, r.packet(number, night::behind(s)), size)),
+        Found::Event(number, e) => Ok(answered(found, r.event(number, e), size)),
+        Found::Packet(number) => Ok(answered(found, r.packet(number, night::behind(s)), size)),
         Found::NewOffer(number) => {
-            Some(answered(found, r.new_offer(number, night::offer(s)), size))
+            Ok(answered(found, r.new_offer(number, night::offer(s)), size))
         }
     }
 }

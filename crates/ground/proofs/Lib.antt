@@ -2,3 +2,4 @@ pub mod Laid
 pub mod Parts
 pub mod Rows
 pub mod Settles
+pub mod Table

@@ -1,5 +1,5 @@
 -- "Meaning of each type": the kind of a message, and what each type of a kind means to us.
-use Rattle.std.specs.Prelude.{ℕ, Bool, true, false, cond, List, [], ◌∷◌, eqb}
+use Rattle.std.specs.Prelude.{ℕ, zero, suc, ◌/◌, ◌%◌, Bool, true, false, cond, List, [], ◌∷◌, eqb}
 use Rattle.message.specs.Types as Types
 use Rattle.meaning.specs.declared.Kind.{Kind}
 use Rattle.meaning.specs.declared.Kind.TheVariants.{Control, Data, Extended}
@@ -42,3 +42,17 @@ found_in (n ∷ ns) t = cond (eqb t n.type) n.meaning (found_in ns t)
 
 unfoldable pub meaning_of : Kind → ℕ → Meaning
 meaning_of k t = found_in (named_of k) t
+
+-- the table: where the 32 entries of a kind begin, and the entry at a place
+abbrev pub first_of : Kind → ℕ
+first_of Control = 0
+first_of Data = 32
+first_of Extended = 64
+
+abbrev kind_at : ℕ → Kind
+kind_at zero = Control
+kind_at (suc zero) = Data
+kind_at (suc (suc n)) = Extended
+
+unfoldable pub entry_of : ℕ → Meaning
+entry_of at = meaning_of (kind_at (at / 32)) (at % 32)

@@ -1,9 +1,9 @@
-// What a message means to us: its kind from the header, and from kind and type the paper's meaning. It
-// promises every type's, and "unsupported" for whatever the paper does not name.
+// What a message means to us: its kind from the header, and from kind and type the paper's meaning,
+// by a table of 96 entries. It promises every entry, and "unsupported" for whatever is not there.
 #![tactic(auto)]
 
-ghost use Rattle.std.specs.Prelude.{◌≡◌, Some};
-ghost use Rattle.meaning.specs.Meaning.{kind_of, meaning_of};
+ghost use Rattle.std.specs.Prelude.{◌≡◌, ◌<◌, ◌+◌, Some};
+ghost use Rattle.meaning.specs.Meaning.{kind_of, first_of, entry_of, meaning_of};
 ghost use Rattle.meaning.specs.Words.{kind_words, meaning_words};
 
 use std::fmt;
@@ -59,6 +59,106 @@ impl fmt::Display for Meaning {
     }
 }
 
+// Three kinds by 32 types: control messages, then data messages, then extended messages.
+const MEANINGS: [Meaning; 96] = [
+    Meaning::Unsupported,
+    Meaning::GoodCrc,
+    Meaning::Unsupported,
+    Meaning::Reply,
+    Meaning::Reply,
+    Meaning::Unsupported,
+    Meaning::Reply,
+    Meaning::GetSourceCap,
+    Meaning::Unsupported,
+    Meaning::Unsupported,
+    Meaning::Unsupported,
+    Meaning::Unsupported,
+    Meaning::Reply,
+    Meaning::SoftReset,
+    Meaning::Unsupported,
+    Meaning::Unsupported,
+    Meaning::Quiet,
+    Meaning::Unsupported,
+    Meaning::Unsupported,
+    Meaning::Unsupported,
+    Meaning::Unsupported,
+    Meaning::Unsupported,
+    Meaning::Unsupported,
+    Meaning::Unsupported,
+    Meaning::Unsupported,
+    Meaning::Unsupported,
+    Meaning::Unsupported,
+    Meaning::Unsupported,
+    Meaning::Unsupported,
+    Meaning::Unsupported,
+    Meaning::Unsupported,
+    Meaning::Unsupported,
+    Meaning::Unsupported,
+    Meaning::Unsupported,
+    Meaning::Request,
+    Meaning::Quiet,
+    Meaning::Unsupported,
+    Meaning::Unsupported,
+    Meaning::Unsupported,
+    Meaning::Unsupported,
+    Meaning::Unsupported,
+    Meaning::Unsupported,
+    Meaning::Unsupported,
+    Meaning::Unsupported,
+    Meaning::Unsupported,
+    Meaning::Unsupported,
+    Meaning::Unsupported,
+    Meaning::Unsupported,
+    Meaning::Unsupported,
+    Meaning::Unsupported,
+    Meaning::Unsupported,
+    Meaning::Unsupported,
+    Meaning::Unsupported,
+    Meaning::Unsupported,
+    Meaning::Unsupported,
+    Meaning::Unsupported,
+    Meaning::Unsupported,
+    Meaning::Unsupported,
+    Meaning::Unsupported,
+    Meaning::Unsupported,
+    Meaning::Unsupported,
+    Meaning::Unsupported,
+    Meaning::Unsupported,
+    Meaning::Unsupported,
+    Meaning::Unsupported,
+    Meaning::Unsupported,
+    Meaning::Unsupported,
+    Meaning::Unsupported,
+    Meaning::Unsupported,
+    Meaning::Unsupported,
+    Meaning::Unsupported,
+    Meaning::Unsupported,
+    Meaning::Unsupported,
+    Meaning::Unsupported,
+    Meaning::Unsupported,
+    Meaning::Unsupported,
+    Meaning::Unsupported,
+    Meaning::Unsupported,
+    Meaning::Unsupported,
+    Meaning::Unsupported,
+    Meaning::Unsupported,
+    Meaning::Unsupported,
+    Meaning::Unsupported,
+    Meaning::Unsupported,
+    Meaning::Unsupported,
+    Meaning::Unsupported,
+    Meaning::Unsupported,
+    Meaning::Unsupported,
+    Meaning::Unsupported,
+    Meaning::Unsupported,
+    Meaning::Unsupported,
+    Meaning::Unsupported,
+    Meaning::Unsupported,
+    Meaning::Unsupported,
+    Meaning::Unsupported,
+    Meaning::Unsupported,
+];
+
 // Extended set: an extended message; else no objects: control; else data.
 pub fn kind_of(extended: bool, objects: u8) -> Kind
     ensures { result ≡ kind_of extended objects }
@@ -72,19 +172,32 @@ pub fn kind_of(extended: bool, objects: u8) -> Kind
     }
 }
 
-// The meaning of a kind's type: the types that the paper names, and "unsupported" for all others.
-#[tactic(auto, unfolding(crate::specs::Meaning::meaning_of))]
+// Where a kind's entries begin.
+fn first(k: Kind) -> usize
+    ensures { (result ≡ first_of k) × (result < 65) }
+{
+    match k {
+        Kind::Control => 0,
+        Kind::Data => 32,
+        Kind::Extended => 64,
+    }
+}
+
+fn entry(at: usize) -> Meaning
+    requires { at < 96 }
+    ensures { result ≡ entry_of at }
+{
+    MEANINGS[at]
+}
+
+// The meaning of a kind's type; a type over 31 is no one's, so it is unsupported.
 pub fn meaning_of(k: Kind, message_type: u8) -> Meaning
     ensures { result ≡ meaning_of k message_type }
 {
-    match (k, message_type) {
-        (Kind::Control, 1) => Meaning::GoodCrc,
-        (Kind::Control, 3 | 4 | 6 | 12) => Meaning::Reply,
-        (Kind::Control, 7) => Meaning::GetSourceCap,
-        (Kind::Control, 13) => Meaning::SoftReset,
-        (Kind::Control, 16) => Meaning::Quiet,
-        (Kind::Data, 2) => Meaning::Request,
-        (Kind::Data, 3) => Meaning::Quiet,
-        _ => Meaning::Unsupported,
+    let at = first(k);
+    if message_type < 32 {
+        entry(at + message_type as usize)
+    } else {
+        Meaning::Unsupported
     }
 }

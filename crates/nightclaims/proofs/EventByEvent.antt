@@ -22,7 +22,7 @@ use Rattle.playing.specs.Nights.{answered, event_done, field_done, is_readable, 
 use Rattle.nightclaims.specs.Happened.{happens_by, happened_in, no_set_up_in}
 use Rattle.nightclaims.specs.Answered.{Said, said_by, said_in, said_to, tally_of, tallied}
 use Rattle.nightclaims.proofs.FieldByField.{read_same, size_same}
-use Rattle.std.specs.Prelude.{Option, Some, None, is_some, IfSome}
+use Rattle.std.specs.Prelude.{Result, Ok, Err, is_some, is_ok, IfOk}
 
 -- ---- an event is a step of the rack
 module _ (p : Played) (l : List ℕ) where
@@ -48,8 +48,8 @@ module _ (p : Played) (l : List ℕ) where
 
 module _ (r : Rack) (l : List ℕ) where
   -- what is said of a field, where there is one
-  abbrev Says : Found → Option Field → Type 0
-  Says found o = IfSome o (λ (f : Field). said_by f ≡ said_in (number_in found) (step r (number_in found) (happening_in found l)))
+  abbrev Says : Found → Result Field Found → Type 0
+  Says found o = IfOk o (λ (f : Field). said_by f ≡ said_in (number_in found) (step r (number_in found) (happening_in found l)))
 
   said_by_lem : (found : Found) → is_event found ≡ true → Says found (field_by found r l)
   said_by_lem Found.Cut e = true_not_false (sym e)
@@ -60,7 +60,7 @@ module _ (r : Rack) (l : List ℕ) where
   said_by_lem (Found.Packet number) e = refl
   said_by_lem (Found.NewOffer number) e = refl
 
-  said : (f : Field) → field_of r l ≡ Some f → is_event (next_of l) ≡ true → said_by f ≡ said_in (number_in (next_of l)) (step r (number_in (next_of l)) (happening_in (next_of l) l))
+  said : (f : Field) → field_of r l ≡ Ok f → is_event (next_of l) ≡ true → said_by f ≡ said_in (number_in (next_of l)) (step r (number_in (next_of l)) (happening_in (next_of l) l))
   unfolding field_of
   said f is e = subst (Says (next_of l)) is (said_by_lem (next_of l) e)
 
@@ -115,17 +115,17 @@ tally_event_by_event (suc n) p l h =
     h
 
 -- a field and those behind it are there where it can be read
-where_read : (o : Option Field) (c : Bool) (behind : Field → List Field) → is_some o ≡ c → and_behind o behind ≡ cond c (and_behind o behind) []
-where_read None c behind e = rw (← e) refl
-where_read (Some f) c behind e = rw (← e) refl
+where_read : (o : Result Field Found) (c : Bool) (behind : Field → List Field) → is_ok o ≡ c → and_behind o behind ≡ cond c (and_behind o behind) []
+where_read (Err found) c behind e = rw (← e) refl
+where_read (Ok f) c behind e = rw (← e) refl
 
 -- an event's answer, and those behind it
-one_said : (r : Rack) (l : List ℕ) (o : Option Field) (behind : Field → List Field) (es : List Happens) → o ≡ field_of r l → is_event (next_of l) ≡ true →
-    ((f : Field) → o ≡ Some f → map said_by (behind f) ≡ said_to f.rack es) →
+one_said : (r : Rack) (l : List ℕ) (o : Result Field Found) (behind : Field → List Field) (es : List Happens) → o ≡ field_of r l → is_event (next_of l) ≡ true →
+    ((f : Field) → o ≡ Ok f → map said_by (behind f) ≡ said_to f.rack es) →
     map said_by (and_behind o behind) ≡ said_to r (happens_by (next_of l) l ∷ es)
 unfolding said_to
-one_said r l None behind es is e h = true_not_false (sym (ap is_some is ∙ read_same r l ∙ event_readable (next_of l) l e))
-one_said r l (Some f) behind es is e h =
+one_said r l (Err found) behind es is e h = true_not_false (sym (ap is_ok is ∙ read_same r l ∙ event_readable (next_of l) l e))
+one_said r l (Ok f) behind es is e h =
     ap (λ (rest : List Said). said_by f ∷ rest) (h f refl)
     ∙ ap (λ (x : Said). x ∷ said_to x.rack es) (said r l f (sym is) e)
 

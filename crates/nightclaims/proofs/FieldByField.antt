@@ -14,7 +14,7 @@ use Rattle.night.specs.Fields.{size_of}
 use Rattle.night.specs.Events.{next_of}
 use Rattle.night.specs.SetUps.{set_up_in, set_up_or_none}
 use Rattle.fields.specs.declared.Field.{Field}
-use Rattle.fields.specs.Answers.{started_field, field_by, field_of, and_behind, fields_in, last_rack, size_of_all, Through}
+use Rattle.fields.specs.Answers.{laid_field, field_by, field_of, and_behind, fields_in, last_rack, size_of_all, Through}
 use Rattle.fields.specs.Answers as Fields
 use Rattle.tally.specs.declared.Tally.{Tally}
 use Rattle.playing.specs.declared.Played.{Played}
@@ -22,18 +22,15 @@ use Rattle.playing.specs.Nights.{begun, rack_after, answered, event_done, set_up
 use Rattle.nightclaims.specs.Pieces.{played}
 use Rattle.nightclaims.specs.Answered.{answer_told, answers_told}
 use Rattle.ground.specs.Refusals.{Verdict}
-use Rattle.std.specs.Prelude.{Ok, Err, Option, Some, None, is_some, option_map, IfSome}
+use Rattle.std.specs.Prelude.{Ok, Err, Option, Some, None, Result, is_some, is_ok, IfOk}
 
 -- ---- one field
 module _ (r : Rack) (l : List ℕ) where
-  abbrev laid_field : Option SetUp → Option Field
-  laid_field laid = option_map (λ (u : SetUp). started_field r (accepted_set_up u) (size_of l)) laid
-
-  laid_read : (laid : Option SetUp) → is_some (laid_field laid) ≡ is_some laid
+  laid_read : (laid : Option SetUp) → is_ok (laid_field r laid (size_of l)) ≡ is_some laid
   laid_read None = refl
   laid_read (Some u) = refl
 
-  read_by : (found : Found) → is_some (field_by found r l) ≡ is_readable found l
+  read_by : (found : Found) → is_ok (field_by found r l) ≡ is_readable found l
   read_by Found.Cut = refl
   read_by Found.UnknownTag = refl
   read_by Found.WrongLength = refl
@@ -43,14 +40,14 @@ module _ (r : Rack) (l : List ℕ) where
   read_by (Found.NewOffer number) = refl
 
   -- THE CLAIM: a field is read by the one exactly where it is read by the other
-  pub read_same : is_some (field_of r l) ≡ is_readable (next_of l) l
+  pub read_same : is_ok (field_of r l) ≡ is_readable (next_of l) l
   unfolding field_of
   read_same = read_by (next_of l)
 
-  abbrev Sized : Option Field → Type 0
-  Sized o = IfSome o (λ (f : Field). f.size ≡ size_of l)
+  abbrev Sized : Result Field Found → Type 0
+  Sized o = IfOk o (λ (f : Field). f.size ≡ size_of l)
 
-  laid_size : (laid : Option SetUp) → Sized (laid_field laid)
+  laid_size : (laid : Option SetUp) → Sized (laid_field r laid (size_of l))
   laid_size None = tt
   laid_size (Some u) = refl
 
@@ -63,7 +60,7 @@ module _ (r : Rack) (l : List ℕ) where
   size_by (Found.Packet number) = refl
   size_by (Found.NewOffer number) = refl
 
-  pub size_same : (f : Field) → field_of r l ≡ Some f → f.size ≡ size_of l
+  pub size_same : (f : Field) → field_of r l ≡ Ok f → f.size ≡ size_of l
   unfolding field_of
   size_same f e = subst Sized e (size_by (next_of l))
 
@@ -72,10 +69,10 @@ rack_same (Ok _) new old = refl
 rack_same (Err r) new old = refl
 
 module _ (p : Played) (l : List ℕ) where
-  abbrev Told : Played → Option Field → Type 0
-  Told q o = IfSome o (λ (f : Field). answer_told p f ≡ q)
+  abbrev Told : Played → Result Field Found → Type 0
+  Told q o = IfOk o (λ (f : Field). answer_told p f ≡ q)
 
-  laid_done : (laid : Option SetUp) → Told (set_up_done p (accepted_set_up (set_up_or_none laid)) (size_of l)) (laid_field p.rack l laid)
+  laid_done : (laid : Option SetUp) → Told (set_up_done p (accepted_set_up (set_up_or_none laid)) (size_of l)) (laid_field p.rack laid (size_of l))
   unfolding set_up_done
   laid_done None = tt
   laid_done (Some u) = rw (rack_same (verdict_of (accepted_set_up u)) (rack_or_none (accepted_set_up u)) p.rack) refl
@@ -91,16 +88,16 @@ module _ (p : Played) (l : List ℕ) where
   done_by_lem (Found.NewOffer number) = refl
 
   -- THE CLAIM: and its answer, told, is what was played with that field
-  pub done_same : (f : Field) → field_of p.rack l ≡ Some f → answer_told p f ≡ field_done (next_of l) p l
+  pub done_same : (f : Field) → field_of p.rack l ≡ Ok f → answer_told p f ≡ field_done (next_of l) p l
   unfolding field_of
   done_same f e = subst (Told (field_done (next_of l) p l)) e (done_by_lem (next_of l))
 
 -- ---- all fields
-by_field : (o : Option Field) (c : Bool) (q p : Played) (behind : Field → List Field) → is_some o ≡ c → ((f : Field) → o ≡ Some f → q ≡ answers_told (answer_told p f) (behind f)) →
+by_field : (o : Result Field Found) (c : Bool) (q p : Played) (behind : Field → List Field) → is_ok o ≡ c → ((f : Field) → o ≡ Ok f → q ≡ answers_told (answer_told p f) (behind f)) →
     cond c q p ≡ answers_told p (and_behind o behind)
 unfolding answers_told
-by_field None c q p behind e h = rw (← e) refl
-by_field (Some f) c q p behind e h = rw (← e) (h f refl)
+by_field (Err found) c q p behind e h = rw (← e) refl
+by_field (Ok f) c q p behind e h = rw (← e) (h f refl)
 
 -- THE CLAIM
 pub field_by_field : (n : ℕ) (p : Played) (l : List ℕ) → night_in n p l ≡ answers_told p (fields_in n p.rack l)

@@ -46,7 +46,7 @@ use Rattle.playing.specs.Nights.{begun, answered, event_done, set_up_done, night
 use Rattle.nightclaims.specs.Pieces.{played, left_of, in_pieces, joined, read_of}
 use Rattle.nightclaims.specs.Happened.{happened_in, no_set_up_in}
 use Rattle.nightclaims.specs.InSupply.{held_in}
-use Rattle.std.specs.Prelude.{Ok, is_some}
+use Rattle.std.specs.Prelude.{Ok, is_ok}
 
 -- docs/NIGHT.md, "An example": 34 bytes of set-up, attach at port 1, the packet `81 00`; and the Request of 5 V 3 A
 abbrev night : List ℕ
@@ -122,8 +122,8 @@ module _ (t : Tally) where
   -- PortAlone (in `fields`): the port answers the attach by itself; at the Request it asks for power, and the rack is to be asked
   pub by_itself :
       (in_rack (played first (take 34 night)).rack 1 ≡ true)
-      × (is_some (alone_of (at (played first (take 34 night)).rack 0) 1 (drop 34 night)) ≡ true)
-      × (is_some (alone_of (at (played first (take 44 night)).rack 0) 1 (drop 44 night)) ≡ false)
+      × (is_ok (alone_of (at (played first (take 34 night)).rack 0) 1 (drop 34 night)) ≡ true)
+      × (is_ok (alone_of (at (played first (take 44 night)).rack 0) 1 (drop 44 night)) ≡ false)
   unfolding night_in alone_of event_done answered set_up_done accepted_set_up good_set_up good_setting good_offer good_from good_object object_at next_of kind_of event_of
       behind_of set_up_in group_in is_supply is_port is_setting setting_of head_is placed offer_in number_at value_of is_whole size_of length_of tag_of word_of step answer_at
       settled judged approves power_rule others Port.step Steps.event_of packet_of Reading.read_of reading_tried refuse_if fields_of objects_of part_of is_chunked

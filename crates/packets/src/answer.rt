@@ -7,8 +7,16 @@ use std::array;
 use std::fmt::{self, Write};
 use text::Line;
 
+// A number under its name.
+fn put_named(line: &mut Line, name: &str, n: u8) -> fmt::Result {
+    line.write_str(name)?;
+    line.put_number(n);
+    Ok(())
+}
+
 fn put_refusal(line: &mut Line, r: Refusal) -> fmt::Result {
-    write!(line, "refused {}, {r}", ground::number(r))
+    put_named(line, "refused ", ground::number(r))?;
+    write!(line, ", {r}")
 }
 
 // Writes a message into a buffer of which byte i holds i, and says what came of it.
@@ -18,7 +26,11 @@ fn put_writing(line: &mut Line, f: Fields, objects: &[u8], input: &Input) -> fmt
     // No size is over 64.
     let buffer = &mut bytes[..size.min(64)];
     match writing::write(f, objects, buffer, place) {
-        Ok(n) => write!(line, "written: {n} bytes")?,
+        Ok(n) => {
+            // A message has 30 bytes at most.
+            put_named(line, "written: ", (n % 256) as u8)?;
+            line.write_str(" bytes")?;
+        }
         Err(r) => put_refusal(line, r)?,
     }
     write!(line, "; buffer: ")?;
@@ -27,13 +39,11 @@ fn put_writing(line: &mut Line, f: Fields, objects: &[u8], input: &Input) -> fmt
 }
 
 fn put_fields(line: &mut Line, f: Fields) -> fmt::Result {
-    write!(
-        line,
-        "; MessageID {}; power role {}",
-        f.message_id, f.power_role
-    )?;
-    write!(line, "; revision {}; data role {}", f.revision, f.data_role)?;
-    write!(line, "; type {}", f.message_type)
+    put_named(line, "; MessageID ", f.message_id)?;
+    put_named(line, "; power role ", f.power_role)?;
+    put_named(line, "; revision ", f.revision)?;
+    put_named(line, "; data role ", f.data_role)?;
+    put_named(line, "; type ", f.message_type)
 }
 
 // All that reading gives, and our GoodCRC for such a packet.
@@ -42,7 +52,8 @@ fn put_message(line: &mut Line, m: Message, objects: &[u8]) -> fmt::Result {
     let meaning = meaning::meaning_of(kind, m.fields.message_type);
     write!(line, "{kind}, {meaning}")?;
     put_fields(line, m.fields)?;
-    write!(line, "; objects {}: ", m.objects)?;
+    put_named(line, "; objects ", m.objects)?;
+    write!(line, ": ")?;
     line.put_bytes(objects);
     write!(line, " | GoodCRC: ")?;
     line.put_bytes(&sending::good_crc(m.fields));

@@ -6,9 +6,9 @@ ghost use Rattle.std.specs.Prelude.{◌≤◌, Result, IfOk};
 
 mod counts;
 
-use counts::Counts;
+use counts::put_counts;
 use rack::Rack;
-use std::fmt::Write as _;
+use std::fmt::{self, Write as _};
 use std::io::{Read, Stderr, Stdin, Stdout, Write as _};
 use tally::Tally;
 use telling::{End, Input, KEPT, PIECE, ROOM, Table};
@@ -61,13 +61,20 @@ fn play(from: Stdin, rack: &mut Rack, tally: &mut Tally) -> End {
     End::Stopped(input.ending, input.place)
 }
 
-// How the night ended, the counts, and the table; what failed is said on standard error too, as `replay` says
-// it: what is written settles nothing either.
+// How the night ended, the counts, and the table.
+fn put_all(line: &mut Line, end: End, tally: &Tally, rack: &Rack) -> fmt::Result {
+    write!(line, "{end}")?;
+    put_counts(line, tally)?;
+    write!(line, "{}", Table(rack))
+}
+
+// Writes all that there is to say; what failed is said on standard error too, as `replay` says it: what is written
+// settles nothing either.
 fn finish(mut to: Stdout, mut aside: Stderr, end: End, tally: &Tally, rack: &Rack) {
     let mut buffer = [0u8; 4096];
     let mut line = Line::new(&mut buffer);
     // There is room.
-    let _ = write!(line, "{end}{}{}", Counts(tally), Table(rack));
+    let _ = put_all(&mut line, end, tally, rack);
     let written = to.write_all(line.as_bytes()).is_ok();
     if matches!(end, End::Unread(_)) {
         let _ = aside.write_all(b"the night could not be read to its end\n");

@@ -146,7 +146,7 @@ impl<'a> Told<'a> {
             let field = &s[at..];
             let port = port_of(field);
             let i = slot_of(port);
-            if let Some(x) = alone::at_port(rack.slots[i], port, field)
+            if let Ok(x) = alone::at_port(rack.slots[i], port, field)
                 && rack.has(port)
             {
                 at += x.size;
@@ -154,7 +154,7 @@ impl<'a> Told<'a> {
                 self.event(field, x.verdict, x.actions, Some(x.slot.port.state));
                 continue;
             }
-            let Some(f) = fields::first(*rack, field) else {
+            let Ok(f) = fields::first(*rack, field) else {
                 return at;
             };
             at += f.size;

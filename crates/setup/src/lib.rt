@@ -84,10 +84,15 @@ fn slot_of(s: Setting) -> Slot
     }
 }
 
+// By `map` the kit makes two arrays more, of 5 KB each: a night of nothing but set-ups of one port took half as long again.
 fn slots_of(settings: [Setting; PORTS]) -> [Slot; PORTS]
     ensures { result ≡ map slot_of settings }
 {
-    settings.map(slot_of)
+    let mut slots = [slot_of(settings[0]); PORTS];
+    for i in 0..PORTS {
+        slots[i] = slot_of(settings[i]);
+    }
+    slots
 }
 
 // A rack without ports, which is there before the first set-up.

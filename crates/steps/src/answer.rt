@@ -35,7 +35,9 @@ fn put_memory_in(line: &mut Line, r: &Rack, number: u8) -> fmt::Result {
 fn put_in_rack(line: &mut Line, t: Told, b: &Bench, number: u8) -> fmt::Result {
     put_told(line, &t)?;
     put_memory_in(line, &b.rack, number)?;
-    write!(line, " | rack: {} of {}", b.rack.load(), b.rack.supply)
+    write!(line, " | rack: {} of ", b.rack.load())?;
+    line.put_decimal(b.rack.supply);
+    Ok(())
 }
 
 fn put_noted(line: &mut Line) -> fmt::Result {

@@ -9,7 +9,7 @@ use setup::{NO_SET_UP, SetUp, Setting};
 
 // The port that stands alone and its limit; the rack, and the set-up in hand for the next one, which is put
 // together line by line.
-#[derive(Drop)]
+#[derive(Clone, Copy)]
 pub struct Bench {
     pub port: Port,
     limit: u32,

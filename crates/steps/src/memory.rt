@@ -11,14 +11,21 @@ fn yes_or_no(yes: bool) -> &'static str {
     if yes { "yes" } else { "no" }
 }
 
+// A number under its name.
+fn put_named(line: &mut Line, name: &str, n: u32) -> fmt::Result {
+    line.write_str(name)?;
+    line.put_decimal(n);
+    Ok(())
+}
+
 fn put_channel(line: &mut Line, c: &Channel) -> fmt::Result {
-    write!(line, ", counter {}", c.counter)?;
+    put_named(line, ", counter ", c.counter as u32)?;
     match c.stored {
-        Some(id) => write!(line, ", stored {id}")?,
+        Some(id) => put_named(line, ", stored ", id as u32)?,
         None => write!(line, ", stored none")?,
     }
-    let pending = Sent(&c.pending.packet);
-    write!(line, ", pending {pending}, retries {}", c.pending.retries)
+    write!(line, ", pending {}", Sent(&c.pending.packet))?;
+    put_named(line, ", retries ", c.pending.retries as u32)
 }
 
 // The objects' bytes as a message of ours has them, behind its header.
@@ -37,25 +44,20 @@ fn put_offers(line: &mut Line, p: &Port) -> fmt::Result {
     Ok(())
 }
 
-fn put_asked(line: &mut Line, a: Asked) -> fmt::Result {
-    let Asked {
-        position,
-        voltage,
-        current,
-        worth,
-    } = a;
-    write!(line, "{position} {voltage} {current} {worth}")
+fn put_asked(line: &mut Line, name: &str, a: Asked) -> fmt::Result {
+    put_named(line, name, a.position as u32)?;
+    put_named(line, " ", a.voltage)?;
+    put_named(line, " ", a.current)?;
+    put_named(line, " ", a.worth)
 }
 
 fn put_power(line: &mut Line, w: &Power) -> fmt::Result {
-    write!(line, ", accepted ")?;
-    put_asked(line, w.accepted)?;
-    write!(line, ", contract ")?;
+    put_asked(line, ", accepted ", w.accepted)?;
     match w.contract {
-        Some(a) => put_asked(line, a)?,
-        None => write!(line, "none")?,
+        Some(a) => put_asked(line, ", contract ", a)?,
+        None => write!(line, ", contract none")?,
     }
-    write!(line, ", held {}", w.held)
+    put_named(line, ", held ", w.held)
 }
 
 pub fn put_memory(line: &mut Line, p: &Port) -> fmt::Result {
@@ -63,6 +65,6 @@ pub fn put_memory(line: &mut Line, p: &Port) -> fmt::Result {
     put_channel(line, &p.channel)?;
     put_offers(line, p)?;
     put_power(line, &p.power)?;
-    let connected = yes_or_no(p.connected);
-    write!(line, ", count {}, connected {connected}", p.count)
+    put_named(line, ", count ", p.count as u32)?;
+    write!(line, ", connected {}", yes_or_no(p.connected))
 }

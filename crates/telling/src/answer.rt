@@ -13,7 +13,7 @@ impl Display for Answered<'_> {
     fn fmt<W: fmt::Write>(&self, f: &mut fmt::Formatter<W>) -> fmt::Result {
         match self.0 {
             Ok(()) => Done(self.1).fmt(f),
-            Err(r) => write!(f, "refused {}, {r}", ground::number(r)),
+            Err(r) => write!(f, "refused {}, {r}", Number(ground::number(r))),
         }
     }
 }
@@ -64,7 +64,7 @@ impl Display for Supplied {
     fn fmt<W: fmt::Write>(&self, f: &mut fmt::Formatter<W>) -> fmt::Result {
         match self.0 {
             Supply::Default => f.write_str("supply default"),
-            Supply::Position(n) => write!(f, "supply {n}"),
+            Supply::Position(n) => write!(f, "supply {}", Number(n)),
         }
     }
 }
@@ -81,6 +81,19 @@ impl Display for Sent<'_> {
     }
 }
 
+// A small number in decimal: its digits are those that `text` promises.
+#[derive(Clone, Copy)]
+struct Number(u8);
+
+impl Display for Number {
+    fn fmt<W: fmt::Write>(&self, f: &mut fmt::Formatter<W>) -> fmt::Result {
+        let mut room = [0; 3];
+        let mut line = Line::new(&mut room);
+        line.put_number(self.0);
+        put_line(f, &line)
+    }
+}
+
 // Bytes in hexadecimal with a blank between two, or a dash where there are none.
 #[derive(Clone, Copy)]
 struct Hex<'a>(&'a [u8]);
@@ -91,6 +104,11 @@ impl Display for Hex<'_> {
         let mut room = [0; 90];
         let mut line = Line::new(&mut room);
         line.put_bytes(self.0);
-        f.write_str(str::from_utf8(line.as_bytes()).unwrap_or_default())
+        put_line(f, &line)
     }
+}
+
+// What stands in a line of letters and digits.
+fn put_line<W: fmt::Write>(f: &mut fmt::Formatter<W>, line: &Line) -> fmt::Result {
+    f.write_str(str::from_utf8(line.as_bytes()).unwrap_or_default())
 }

@@ -25,27 +25,27 @@ slice_bounds-field-start c = omega (arith, c.loop-turn.invariant.short, c.loop-t
 
 pub overflow_add-at : goal.overflow_add-at
 overflow_add-at c =
-    let fits = reaches_alone c.loop-turn.invariant.going _ (rest c.loop-turn.at c.args.s.now) _ _ c.slot_of-i.ensures _ c.at_port.ensures c.in-Some.x c.in-Some.is (sym c.has.ensures ∙ c.if-has.true) in
+    let fits = reaches_alone c.loop-turn.invariant.going _ (rest c.loop-turn.at c.args.s.now) _ _ c.slot_of-i.ensures _ c.at_port.ensures c.in-Ok.x c.in-Ok.is (sym c.has.ensures ∙ c.if-has.true) in
     omega (arith, c.loop-turn.invariant.short, fits)
 
 pub loop-turn-preserved-in-loop-turn : goal.loop-turn-preserved-in-loop-turn
 loop-turn-preserved-in-loop-turn c = record {
   short = c.loop-turn.invariant.short;
-  going = rw (one_less (length c.args.s.now) c.loop-turn._turn) (goes_on_alone c.loop-turn.invariant.going _ (rest c.loop-turn.at c.args.s.now) _ _ c.slot_of-i.ensures _ c.at_port.ensures c.in-Some.x c.in-Some.is (sym c.has.ensures ∙ c.if-has.true) (omega (arith, c.loop-turn-test.true)));
+  going = rw (one_less (length c.args.s.now) c.loop-turn._turn) (goes_on_alone c.loop-turn.invariant.going _ (rest c.loop-turn.at c.args.s.now) _ _ c.slot_of-i.ensures _ c.at_port.ensures c.in-Ok.x c.in-Ok.is (sym c.has.ensures ∙ c.if-has.true) (omega (arith, c.loop-turn-test.true)));
 }
 
 pub returns-in_default : goal.returns-in_default
-returns-in_default c = stops c.loop-turn.invariant.going _ (rest c.loop-turn.at c.args.s.now) c.first.result c.first.ensures c.in_default-2.is
+returns-in_default c = stops c.loop-turn.invariant.going _ (rest c.loop-turn.at c.args.s.now) c.first.result c.first.ensures _ c.in_default-2.is
 
 pub overflow_add-at-in-loop-turn : goal.overflow_add-at-in-loop-turn
 overflow_add-at-in-loop-turn c =
-    let fits = reaches c.loop-turn.invariant.going _ (rest c.loop-turn.at c.args.s.now) c.first.result c.first.ensures c.in-Some-first.f c.in-Some-first.is in
+    let fits = reaches c.loop-turn.invariant.going _ (rest c.loop-turn.at c.args.s.now) c.first.result c.first.ensures c.in-Ok-first.f c.in-Ok-first.is in
     omega (arith, c.loop-turn.invariant.short, fits)
 
 pub loop-turn-preserved : goal.loop-turn-preserved
 loop-turn-preserved c = record {
   short = c.loop-turn.invariant.short;
-  going = rw (one_less (length c.args.s.now) c.loop-turn._turn) (goes_on c.loop-turn.invariant.going _ (rest c.loop-turn.at c.args.s.now) c.first.result c.first.ensures c.in-Some-first.f c.in-Some-first.is (omega (arith, c.loop-turn-test.true)));
+  going = rw (one_less (length c.args.s.now) c.loop-turn._turn) (goes_on c.loop-turn.invariant.going _ (rest c.loop-turn.at c.args.s.now) c.first.result c.first.ensures c.in-Ok-first.f c.in-Ok-first.is (omega (arith, c.loop-turn-test.true)));
 }
 
 pub returns : goal.returns
